@@ -8,6 +8,7 @@ use lib.ListN.{length, getD, take, drop}
 use Rattle.std.proofs.shelf.Lists.{take-rest, take-at, take-all, take-take, length-take, length-append, getD-append-right, length-push, nil-from-length}
 use Rattle.std.proofs.shelf.Elements.{all-push}
 use Rattle.std.proofs.shelf.Tests.{cases-order}
+use Rattle.std.specs.Results.{Cases}
 use Rattle.std.specs.declared.result.Result.{Result}
 use Rattle.std.specs.declared.result.Result.the-variants.{Ok, Err}
 use Rattle.std.specs.shelf.Lists.{All}
@@ -18,7 +19,7 @@ use Rattle.bounds.specs.Range.{Sound}
 use Rattle.words.specs.declared.fault.WordFault.{WordFault}
 use Rattle.words.specs.declared.fault.WordFault.the-variants.{Length, Word}
 use Rattle.words.specs.Words.{row-words, writing}
-use Rattle.words.specs.Reading.{Fits-at, Breaks-at, Holds, Breaks, Rows-read, Checked}
+use Rattle.words.specs.Reading.{Fits-at, Breaks-at, Bound-read, Holds, Breaks, Rows-read, Checked}
 use Rattle.words.specs.Law.{Writing-holds, One-writing, One-reading, One-answer, Reads-back, Accepted-is-written, Law}
 use Rattle.words.proofs.Writings.{writing-push, length-writing, same-row, row-fits, front3}
 
@@ -175,3 +176,18 @@ pub law : Law
 law = record {
   writing-holds = writing-holds; one-writing = one-writing; one-reading = reads-once;
   one-answer = one-answer; reads-back = reads-back; accepted-is-written = accepted-is-written }
+
+-- what a bound's own words are answered: one row, and the bound itself
+module _ (b : Bound) (ws : List ℕ) (own : ws ≡ row-words (row-of b)) where
+  abbrev three : List ℕ → List ℕ
+  three ws = getD ws 0 0 ∷ (getD ws 1 0 ∷ (getD ws 2 0 ∷ []))
+
+  pub own-checked : (r : Result ℕ WordFault) → Checked (three ws) r → r ≡ Ok 1
+  own-checked r h =
+      one-answer (writing (row-of b ∷ [])) r (Ok 1) (subst (λ ws. Checked (three ws) r) own h) (reads-back (row-of b ∷ []) (b .sound, tt) (omega arith))
+
+  pub own-read : (r : Result Bound WordFault) → Bound-read (getD ws 0 0) (getD ws 1 0) (getD ws 2 0) r → Cases r (λ back. row-of back ≡ row-of b) (λ _. ⊥)
+  own-read (Ok back) h = same-row (row-of back) (row-of b) [] [] (back .sound) (b .sound) (h ∙ ap three own) .0
+  own-read (Err (Length n)) h = h
+  own-read (Err (Word k)) (small, fit, bad) =
+      bad (subst (λ ws. Fits-at k (getD (three ws) k 0)) (sym own) (row-fits (row-of b) [] k (b .sound) small))

@@ -6,4 +6,5 @@ pub mod rows;
 pub use fault::WordFault;
 pub use rows::bound_of;
 pub use rows::check;
+pub use rows::round_trip;
 pub use rows::words_of;

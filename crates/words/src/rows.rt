@@ -2,6 +2,7 @@
 ghost use mathlib.Core.Path.{_≡_};
 ghost use Prim.Native.Nat.{_%_, _≤_};
 ghost use lib.ListN.{length};
+ghost use Rattle.std.specs.Results.{Cases};
 ghost use Rattle.bounds.specs.Making.{row-of};
 ghost use Rattle.words.specs.Words.{row-words};
 ghost use Rattle.words.specs.Reading.{Row-read, Bound-read, Rows-read, Checked};
@@ -81,4 +82,13 @@ pub fn check(words: &[u32]) -> Result<usize, WordFault>
         Ok(rows) => Ok(rows),
         Err(place) => Err(WordFault::Word { place }),
     }
+}
+
+// Writes a bound, checks its words as a buffer of one row, and reads them back: the bound itself, by the law.
+pub fn round_trip(bound: Bound) -> Result<Bound, WordFault>
+    ensures { λ r. ⌜ Cases r (λ back. row-of back ≡ row-of bound) (λ _. ⊥) ⌝ }
+{
+    let [head, t, s] = words_of(bound);
+    check(&[head, t, s])?;
+    bound_of(head, t, s)
 }

@@ -1,0 +1,4 @@
+pub mod Cuts
+pub mod Values
+pub mod Front
+pub mod Keeping
