@@ -23,7 +23,11 @@ impl BoundFault {
             BoundFault::PartT => 3,
             BoundFault::PartS => 4,
         };
-        Fault { number: 7, layer: Layer::Bounds, place }
+        Fault {
+            number: 7,
+            layer: Layer::Bounds,
+            place,
+        }
     }
 
     // What is wrong, in words.

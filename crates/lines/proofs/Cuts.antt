@@ -36,12 +36,14 @@ fields-cut (b ∷ bs) rest h =
 pub cut : (bs : List ℕ) → Solid bs ⊎ ((f : List ℕ) × (rest : List ℕ) × Solid f × (bs ≡ f ++ (32 ∷ rest)))
 cut [] = inl (λ k l e. omega arith)
 cut (b ∷ bs) =
-    elim (cases-eq b 32)
-    [ inl space ↦ inr ([], bs, λ k l e. omega arith, ap (λ x. x ∷ bs) space)
-    | inr other ↦
-        elim (cut bs)
-        [ inl solid ↦ inl (solid-more b bs other solid)
-        | inr (f, rest, solid, e) ↦ inr (b ∷ f, rest, solid-more b f other solid, ap (λ x. b ∷ x) e) ] ]
+    elim (cases-eq b 32) [
+      | inl space ↦ inr ([], bs, λ k l e. omega arith, ap (λ x. x ∷ bs) space)
+      | inr other ↦
+          elim (cut bs) [
+            | inl solid ↦ inl (solid-more b bs other solid)
+            | inr (f, rest, solid, e) ↦ inr (b ∷ f, rest, solid-more b f other solid, ap (λ x. b ∷ x) e)
+          ]
+    ]
 
 -- bytes that begin with a space are that space and the others
 pub cut-first : (bs : List ℕ) → 0 < length bs → getD bs 0 0 ≡ 32 → bs ≡ 32 ∷ drop 1 bs

@@ -1,6 +1,6 @@
 -- The first bytes of a line decide its reading, since a field that is too long is refused whatever it holds.
 use mathlib.Core.Path.{_≡_, sym, _∙_, ap}
-use mathlib.Core.List.{List, [], _∷_, _++_}
+use mathlib.Core.List.{List, [], _∷_}
 use mathlib.Core.Logic.{inl, inr}
 use Prim.Native.Nat.{ℕ, zero, suc, _+_, _-_, _*_, _<_, _≤_}
 use native.Mathlib.Omega.{arith}
@@ -26,9 +26,10 @@ module _ {X : Type 0} (read : List ℕ → Option X) (m : ℕ) (long : (f : List
   -- a line has a field, so it is refused where none may be left
   extra : (p : ℕ) (bs : List ℕ) → readings read p zero (fields bs) ≡ Err p
   extra p bs =
-      elim (cut bs)
-      [ inl s ↦ ap (readings read p zero) (fields-last bs s)
-      | inr (f, rest, s, e) ↦ ap (λ x. readings read p zero (fields x)) e ∙ ap (readings read p zero) (fields-cut f rest s) ]
+      elim (cut bs) [
+        | inl s ↦ ap (readings read p zero) (fields-last bs s)
+        | inr (f, rest, s, e) ↦ ap (λ x. readings read p zero (fields x)) e ∙ ap (readings read p zero) (fields-cut f rest s)
+      ]
 
   -- a line whose first field is too long is refused there
   over : (p k : ℕ) (bs f : List ℕ) (fs : List (List ℕ)) → fields bs ≡ f ∷ fs → m < length f → readings read p (suc k) (fields bs) ≡ Err p
@@ -40,36 +41,40 @@ module _ {X : Type 0} (read : List ℕ → Option X) (m : ℕ) (long : (f : List
   front zero p n bs h = extra p (take n bs) ∙ sym (extra p bs)
   front (suc k) p n bs h =
       let room : (m + 1) * k + (m + 1) ≤ n = omega (arith, mul-suc (m + 1) k) in
-      elim (cut bs)
-      [ inl s ↦
-          elim (cases-lt n (length bs))
-          [ inl l ↦
-              let size = length-take n bs in
-              over p k (take n bs) (take n bs) [] (fields-last (take n bs) (solid-take n bs s)) (omega arith)
-              ∙ sym (over p k bs bs [] (fields-last bs s) (omega arith))
-          | inr g ↦ ap (λ x. readings read p (suc k) (fields x)) (take-all n bs g) ]
-      | inr (f, rest, s, e) ↦
-          let whole : fields bs ≡ f ∷ fields rest = ap fields e ∙ fields-cut f rest s in
-          elim (cases-lt (length f) n)
-          [ inr g ↦
-              let size = length-take n f in
-              let short : fields (take n bs) ≡ take n f ∷ [] =
-                    ap fields (ap (take n) e ∙ take-append-le n f (32 ∷ rest) g) ∙ fields-last (take n f) (solid-take n f s) in
-              over p k (take n bs) (take n f) [] short (omega arith) ∙ sym (over p k bs f (fields rest) whole (omega arith))
-          | inl l ↦
-              let r : ℕ = n - length f - 1 in
-              let parts : n ≡ length f + suc r = omega arith in
-              let short : fields (take n bs) ≡ f ∷ fields (take r rest) =
-                    ap fields (ap (λ j. take j bs) parts ∙ (ap (take (length f + suc r)) e ∙ take-append-add f (32 ∷ rest) (suc r)))
-                    ∙ fields-cut f (take r rest) s in
-              elim (cases-lt m (length f))
-              [ inl o ↦ over p k (take n bs) f (fields (take r rest)) short o ∙ sym (over p k bs f (fields rest) whole o)
-              | inr u ↦
-                  ap (readings read p (suc k)) short
-                  ∙ (ap (with-first p (read f)) (front k (suc p) r rest (omega arith)) ∙ sym (ap (readings read p (suc k)) whole)) ] ] ]
+      elim (cut bs) [
+        | inl s ↦
+            elim (cases-lt n (length bs)) [
+              | inl l ↦
+                  let size = length-take n bs in
+                  over p k (take n bs) (take n bs) [] (fields-last (take n bs) (solid-take n bs s)) (omega arith)
+                  ∙ sym (over p k bs bs [] (fields-last bs s) (omega arith))
+              | inr g ↦ ap (λ x. readings read p (suc k) (fields x)) (take-all n bs g)
+            ]
+        | inr (f, rest, s, e) ↦
+            let whole : fields bs ≡ f ∷ fields rest = ap fields e ∙ fields-cut f rest s in
+            elim (cases-lt (length f) n) [
+              | inr g ↦
+                  let size = length-take n f in
+                  let short : fields (take n bs) ≡ take n f ∷ [] =
+                  ap fields (ap (take n) e ∙ take-append-le n f (32 ∷ rest) g) ∙ fields-last (take n f) (solid-take n f s) in
+                  over p k (take n bs) (take n f) [] short (omega arith) ∙ sym (over p k bs f (fields rest) whole (omega arith))
+              | inl l ↦
+                  let r : ℕ = n - length f - 1 in
+                  let parts : n ≡ length f + suc r = omega arith in
+                  let short : fields (take n bs) ≡ f ∷ fields (take r rest) =
+                  ap fields (ap (λ j. take j bs) parts ∙ (ap (take (length f + suc r)) e ∙ take-append-add f (32 ∷ rest) (suc r)))
+                  ∙ fields-cut f (take r rest) s in
+                  elim (cases-lt m (length f)) [
+                    | inl o ↦ over p k (take n bs) f (fields (take r rest)) short o ∙ sym (over p k bs f (fields rest) whole o)
+                    | inr u ↦
+                        ap (readings read p (suc k)) short
+                        ∙ (ap (with-first p (read f)) (front k (suc p) r rest (omega arith)) ∙ sym (ap (readings read p (suc k)) whole))
+                  ]
+            ]
+      ]
 
   -- so what the first n bytes of a line read as is what the line reads as
   pub decided : (k p n : ℕ) (line whole : List ℕ) (r : Result (List X) ℕ)
-    → (m + 1) * k ≤ n → line ≡ take n whole → readings read p k (fields line) ≡ r → readings read p k (fields whole) ≡ r
+      → (m + 1) * k ≤ n → line ≡ take n whole → readings read p k (fields line) ≡ r → readings read p k (fields whole) ≡ r
   decided k p n line whole r h e reads =
       sym (front k p n whole h) ∙ (ap (λ bs. readings read p k (fields bs)) (sym e) ∙ reads)

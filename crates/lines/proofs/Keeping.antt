@@ -14,12 +14,12 @@ take-front (suc n) (x ∷ xs) ys = ap (λ l. x ∷ l) (take-front n xs ys)
 
 -- what is kept after one more byte is the front of the whole after it
 pub keeps-front : {X : Type 0} (n : ℕ) (kept next whole : List X) (b : X)
-  → next ≡ take n (kept ++ (b ∷ [])) → kept ≡ take n whole → next ≡ take n (whole ++ (b ∷ []))
+    → next ≡ take n (kept ++ (b ∷ [])) → kept ≡ take n whole → next ≡ take n (whole ++ (b ∷ []))
 keeps-front n kept next whole b adds e = adds ∙ (ap (λ x. take n (x ++ (b ∷ []))) e ∙ take-front n whole (b ∷ []))
 
 -- where there is room, the byte is written after those that are kept
 pub push-room : {X : Type 0} (m n : ℕ) (bs : List X) (b : X)
-  → length bs ≡ m → n < m → take (n + 1) (set bs n b) ≡ take m (take n bs ++ (b ∷ []))
+    → length bs ≡ m → n < m → take (n + 1) (set bs n b) ≡ take m (take n bs ++ (b ∷ []))
 push-room m n bs b all room =
     let more = length-push (take n bs) b in
     let size = length-take n bs in

@@ -10,14 +10,14 @@ use lib.ListN.{length, getD, take, drop}
 use Rattle.std.proofs.shelf.Lists.{at-drop-more, take-rest}
 use Rattle.std.proofs.shelf.Tests.{eq-eqb, ne-eqb, lt-leb, and-right, cond-true, cond-false, cond-both}
 use Rattle.std.specs.declared.option.Option.{Option}
-use Rattle.std.specs.declared.option.Option.the-variants.{None, Some}
+use Rattle.std.specs.declared.option.Option.the-variants.{None}
 use Rattle.lines.specs.Digits.{digit, and-then, digits-after}
 use Rattle.lines.specs.Decimal.{natural, positive, negative, number}
 use Rattle.lines.specs.Hex.{word}
 
 -- what the digits from i on give is what the one at i says
 pub digit-next : (base n i : ℕ) (ds : List ℕ) (o : Option ℕ) → i < length ds → o ≡ digit base (getD ds i 0)
-  → digits-after base n (drop i ds) ≡ and-then o (λ d. digits-after base (n * base + d) (drop (i + 1) ds))
+    → digits-after base n (drop i ds) ≡ and-then o (λ d. digits-after base (n * base + d) (drop (i + 1) ds))
 digit-next base n i ds o h e =
     at-drop-more (digits-after base n) ds i 0 h ∙ ap (λ x. and-then x (λ d. digits-after base (n * base + d) (drop (i + 1) ds))) (sym e)
 

@@ -14,7 +14,7 @@ abbrev pub on-first : ℕ → List (List ℕ) → List (List ℕ)
 on-first c [] = (c ∷ []) ∷ []
 on-first c (f ∷ fs) = (c ∷ f) ∷ fs
 
--- the fields of a line, of which there is at least one: a space, which is byte 32, ends a field, and every other byte stands in one
+-- the fields of a line, at least one: a space, which is byte 32, ends a field, and every other byte stands in one
 abbrev pub fields : List ℕ → List (List ℕ)
 fields [] = [] ∷ []
 fields (c ∷ cs) = cond (eqb c 32) ([] ∷ fields cs) (on-first c (fields cs))

@@ -6,7 +6,7 @@ use faults::Layer;
 
 #[derive(Clone, Copy, PartialEq, Eq, Debug)]
 pub enum LineFault {
-    // The field at this place is missing, bad or extra. The first field of a line stands at the place that its reader gives.
+    // The field at this place is missing, bad or extra. The reader of a line says at which place its fields begin.
     Unreadable { field: u8 },
 }
 
@@ -16,7 +16,11 @@ impl LineFault {
         ensures { λ r. ⌜ r ≡ fault-of self ⌝ }
     {
         match self {
-            LineFault::Unreadable { field } => Fault { number: 12, layer: Layer::Lines, place: u64::from(field) },
+            LineFault::Unreadable { field } => Fault {
+                number: 12,
+                layer: Layer::Lines,
+                place: u64::from(field),
+            },
         }
     }
 }

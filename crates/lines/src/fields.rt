@@ -13,7 +13,7 @@ use crate::number::word_in;
 // The fields of a line that are left to read.
 #[derive(Drop)]
 pub struct Fields<'a> {
-    // What is left of the line. A line that ends in a space has one more field, an empty one, so nothing left and an empty rest differ.
+    // What is left of the line. After a last space an empty field is left, so nothing and an empty rest differ.
     rest: Option<&'a [u8]>,
 }
 

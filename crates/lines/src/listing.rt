@@ -42,7 +42,7 @@ impl<'a> Fields<'a> {
     }
 }
 
-// The four numbers of a line, which its first 48 bytes decide: a number has at most eleven bytes, and a longer field is refused.
+// The four numbers of a line. Its first 48 bytes decide them: each has at most eleven bytes, and a longer field is refused.
 pub fn four_numbers(line: &[u8]) -> Result<Figures, LineFault>
     ensures reads { λ r. ⌜ FourNumbers (fields (now (line .entry))) r ⌝ }
     ensures front { λ r. ⌜ ((whole : List ℕ) → now (line .entry) ≡ take 48 whole → FourNumbers (fields whole) r) ⌝ }
@@ -51,7 +51,7 @@ pub fn four_numbers(line: &[u8]) -> Result<Figures, LineFault>
     fields.last_four_numbers()
 }
 
-// The three words of a line, which its first 48 bytes decide too.
+// The three words of a line, which its first 48 bytes decide too: each has eight.
 pub fn three_words(line: &[u8]) -> Result<[u32; 3], LineFault>
     ensures reads { λ r. ⌜ ThreeWords (fields (now (line .entry))) r ⌝ }
     ensures front { λ r. ⌜ ((whole : List ℕ) → now (line .entry) ≡ take 48 whole → ThreeWords (fields whole) r) ⌝ }
@@ -71,11 +71,18 @@ mod tests {
         LineFault::Unreadable { field }
     }
 
+    fn figures(left: i64, right: i64, t: i64, s: i64) -> Figures {
+        Figures { left, right, t, s }
+    }
+
     #[test]
     fn numbers() -> Result<(), Fail> {
-        check_eq(four_numbers(b"0 1 -20 0"), Ok(Figures { left: 0, right: 1, t: -20, s: 0 }))?;
-        check_eq(four_numbers(b"-0 0 0 0"), Ok(Figures { left: 0, right: 0, t: 0, s: 0 }))?;
-        check_eq(four_numbers(b"1 0 -9999999999 9999999999"), Ok(Figures { left: 1, right: 0, t: -9999999999, s: 9999999999 }))?;
+        check_eq(four_numbers(b"0 1 -20 0"), Ok(figures(0, 1, -20, 0)))?;
+        check_eq(four_numbers(b"-0 0 0 0"), Ok(figures(0, 0, 0, 0)))?;
+        check_eq(
+            four_numbers(b"9999999999 0 -9999999999 0"),
+            Ok(figures(9999999999, 0, -9999999999, 0)),
+        )?;
         check_eq(four_numbers(b"1 0 5"), Err(at(4)))?;
         check_eq(four_numbers(b"1  0 5 0"), Err(at(2)))?;
         check_eq(four_numbers(b"1 0 5 0 "), Err(at(5)))
@@ -93,8 +100,14 @@ mod tests {
 
     #[test]
     fn words() -> Result<(), Fail> {
-        check_eq(three_words(b"40000001 BFFFFFEC C0000000"), Ok([0x40000001, 0xBFFFFFEC, 0xC0000000]))?;
-        check_eq(three_words(b"00000000 ffffffff 89abCDEF"), Ok([0, 0xFFFFFFFF, 0x89ABCDEF]))?;
+        check_eq(
+            three_words(b"40000001 BFFFFFEC C0000000"),
+            Ok([0x40000001, 0xBFFFFFEC, 0xC0000000]),
+        )?;
+        check_eq(
+            three_words(b"00000000 ffffffff 89abCDEF"),
+            Ok([0, 0xFFFFFFFF, 0x89ABCDEF]),
+        )?;
         check_eq(three_words(b"4000001 BFFFFFEC C0000000"), Err(at(1)))?;
         check_eq(three_words(b"40000001 0BFFFFFEC C0000000"), Err(at(2)))?;
         check_eq(three_words(b"40000001 BFFFFFEC C000000G"), Err(at(3)))?;

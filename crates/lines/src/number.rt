@@ -7,8 +7,10 @@ ghost use Rattle.lines.specs.Digits.{digit, digits-after};
 ghost use Rattle.lines.specs.Decimal.{natural, number};
 ghost use Rattle.lines.specs.Hex.{word};
 
-// The most digits that a decimal number has, and the digits that every word has.
+// The most digits that a decimal number has.
 const NUMBER_DIGITS: usize = 10;
+
+// The digits that every word has.
 const WORD_DIGITS: usize = 8;
 
 // The value of a byte as a digit of the base.
@@ -26,7 +28,7 @@ fn digit_in(b: u8, base: u64) -> Option<u64>
     if d < base { Some(d) } else { None }
 }
 
-// The number that the digits write. So few digits can't overflow.
+// The number that digits write in a base. With so few digits, in so small a base, it can't overflow.
 fn digits_in(text: &[u8], base: u64) -> Option<u64>
     requires few { ⌜ length (now text) ≤ 10 ⌝ }
     requires small { ⌜ base ≤ 16 ⌝ }

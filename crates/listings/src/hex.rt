@@ -13,7 +13,11 @@ fn digit(d: u32) -> char
     ensures { λ r. ⌜ r ≡ hex-digit d ⌝ }
 {
     let d = d as u8;
-    if d < 10 { char::from(b'0' + d) } else { char::from(b'A' + (d - 10)) }
+    if d < 10 {
+        char::from(b'0' + d)
+    } else {
+        char::from(b'A' + (d - 10))
+    }
 }
 
 pub impl fmt::Display for Hex as HexDisplay {

@@ -23,21 +23,21 @@ mask-twos (negsuc n) h = and-mask (2 ^ 32 - suc n) 30 ∙ omega (arith, ints)
 
 -- `tag << 30 | (z & FIELD) as u32`
 pub or-part : (tag : ℕ) (z : ℤ) → tag < 4 → Part z
-  → bitOr (tag * 2 ^ 30 % 2 ^ 32) (natAbs (toZ w32 (bitAnd (ofZ w32 z) (2 ^ 30 - 1)))) ≡ part-word tag z
+    → bitOr (tag * 2 ^ 30 % 2 ^ 32) (natAbs (toZ w32 (bitAnd (ofZ w32 z) (2 ^ 30 - 1)))) ≡ part-word tag z
 or-part tag z four h =
     let small = twos-small z h in
     let low : natAbs (toZ w32 (bitAnd (ofZ w32 z) (2 ^ 30 - 1))) ≡ twos z =
-      ap (λ n. natAbs (toZ w32 n)) (mask-twos z h) ∙ ap natAbs (toZ-pos w32 (twos z) (omega arith)) in
+    ap (λ n. natAbs (toZ w32 n)) (mask-twos z h) ∙ ap natAbs (toZ-pos w32 (twos z) (omega arith)) in
     let high : tag * 2 ^ 30 % 2 ^ 32 ≡ tag * 2 ^ 30 = omega arith in
     ap (λ x. bitOr x (natAbs (toZ w32 (bitAnd (ofZ w32 z) (2 ^ 30 - 1))))) high
     ∙ (ap (bitOr (tag * 2 ^ 30)) low ∙ or-shifted tag 30 (twos z) small)
 
 -- `1 << 30 | left << 12 | right`
 pub or-head : (left right : ℕ) → left ≤ 4095 → right ≤ 4095
-  → bitOr (bitOr (2 ^ 30) (left * 4096 % 2 ^ 32)) right ≡ head-word left right
+    → bitOr (bitOr (2 ^ 30) (left * 4096 % 2 ^ 32)) right ≡ head-word left right
 or-head left right l r =
     let whole : left * 4096 % 2 ^ 32 ≡ left * 2 ^ 12 = omega arith in
     let high : bitOr (2 ^ 30) (left * 2 ^ 12) ≡ (2 ^ 18 + left) * 2 ^ 12 =
-      or-shifted 1 30 (left * 2 ^ 12) (omega arith) ∙ omega arith in
+    or-shifted 1 30 (left * 2 ^ 12) (omega arith) ∙ omega arith in
     ap (λ x. bitOr (bitOr (2 ^ 30) x) right) whole
     ∙ (ap (λ x. bitOr x right) high ∙ (or-shifted (2 ^ 18 + left) 12 right (omega arith) ∙ omega arith))

@@ -35,8 +35,8 @@ passed-none ws = record { rows = []; sound = tt; many = refl; cut = refl }
 
 -- one row more, of a bound with the next three words
 pub passed-more : (ws : List ℕ) (n : ℕ) (rest : List ℕ) (b : Bound) → Passed ws n rest → 3 ≤ length rest
-  → row-words (row-of b) ≡ getD rest 0 0 ∷ (getD rest 1 0 ∷ (getD rest 2 0 ∷ []))
-  → Passed ws (n + 1) (take (length rest - 3) (drop 3 rest))
+    → row-words (row-of b) ≡ getD rest 0 0 ∷ (getD rest 1 0 ∷ (getD rest 2 0 ∷ []))
+    → Passed ws (n + 1) (take (length rest - 3) (drop 3 rest))
 passed-more ws n rest b p three e =
     let words : rest ≡ row-words (row-of b) ++ drop 3 rest = front3 rest three ∙ ap (λ ws. ws ++ drop 3 rest) (sym e) in
     record {
@@ -44,7 +44,7 @@ passed-more ws n rest b p three e =
       sound = all-push Sound (p .rows) (row-of b) (p .sound) (b .sound);
       many = length-push (p .rows) (row-of b) ∙ ap (λ k. k + 1) (p .many);
       cut = p .cut ∙ (ap (λ x. writing (p .rows) ++ x) words ∙ (writing-push (p .rows) (row-of b) (drop 3 rest)
-        ∙ ap (λ x. writing (p .rows ++ (row-of b ∷ [])) ++ x) (sym (take-rest rest 3))));
+          ∙ ap (λ x. writing (p .rows ++ (row-of b ∷ [])) ++ x) (sym (take-rest rest 3))));
     }
 
 -- the rows end where no word is left, or at a zero head
@@ -56,11 +56,17 @@ passed-all ws n rest p none = passed-end ws n rest p (ap (λ x. getD x 0 0) (nil
 
 -- the row that comes next is broken at k
 pub passed-broken : (ws : List ℕ) (n : ℕ) (rest : List ℕ) (k : ℕ) → Passed ws n rest → 3 ≤ length rest → (getD rest 0 0 ≡ 0 → ⊥)
-  → Breaks-at (getD rest 0 0 ∷ (getD rest 1 0 ∷ (getD rest 2 0 ∷ []))) k → Rows-read ws (Err (3 * n + k))
+    → Breaks-at (getD rest 0 0 ∷ (getD rest 1 0 ∷ (getD rest 2 0 ∷ []))) k → Rows-read ws (Err (3 * n + k))
 passed-broken ws n rest k p three begins (small, fit, bad) =
     let same : (j : ℕ) → j < 3 → getD (getD rest 0 0 ∷ (getD rest 1 0 ∷ (getD rest 2 0 ∷ []))) j 0 ≡ getD rest j 0 = first3 rest in
     record {
-      before = p .rows; sound = p .sound; after = rest; cut = p .cut; begins = begins; k = k; within = omega arith;
+      before = p .rows;
+      sound = p .sound;
+      after = rest;
+      cut = p .cut;
+      begins = begins;
+      k = k;
+      within = omega arith;
       breaks = (small, (λ j less. subst (λ w. Fits-at j w) (same j (omega arith)) (fit j less)), λ f. bad (subst (λ w. Fits-at k w) (sym (same k small)) f));
       place = ap (λ m. 3 * m + k) (sym (p .many));
     }
@@ -73,7 +79,7 @@ passed-broken ws n rest k p three begins (small, fit, bad) =
 
 -- two readings of the same words go row by row: a row here is a row there, since three words are one row's at most
 one-reading : (rows others : List Row) (a b : List ℕ) → All Sound rows → All Sound others → getD a 0 0 ≡ 0 → getD b 0 0 ≡ 0
-  → writing rows ++ a ≡ writing others ++ b → rows ≡ others
+    → writing rows ++ a ≡ writing others ++ b → rows ≡ others
 one-reading [] [] a b i j p q h = refl
 one-reading [] (x ∷ others) a b i j p q h = absurd (let z = ap (λ ws. getD ws 0 0) h in let k : ⊥ = omega arith in k)
 one-reading (r ∷ rows) [] a b i j p q h = absurd (let z = ap (λ ws. getD ws 0 0) h in let k : ⊥ = omega arith in k)
@@ -87,7 +93,7 @@ reads-once rows others ws h g = one-reading rows others (h .after) (g .after) (h
 
 -- rows and then a broken one are no rows and then an end
 no-break : (rows others : List Row) (a rest : List ℕ) (k : ℕ) → All Sound rows → All Sound others → getD a 0 0 ≡ 0
-  → writing rows ++ a ≡ writing others ++ rest → (getD rest 0 0 ≡ 0 → ⊥) → Breaks-at rest k → ⊥
+    → writing rows ++ a ≡ writing others ++ rest → (getD rest 0 0 ≡ 0 → ⊥) → Breaks-at rest k → ⊥
 no-break [] [] a rest k i j z h begins br = begins (ap (λ ws. getD ws 0 0) (sym h) ∙ z)
 no-break [] (x ∷ others) a rest k i j z h begins br = let y = ap (λ ws. getD ws 0 0) h in omega arith
 no-break (r ∷ rows) [] a rest k (r-in, i) j z h begins br =
@@ -98,12 +104,13 @@ no-break (r ∷ rows) (x ∷ others) a rest k (r-in, i) (x-in, j) z h begins br 
 -- a row breaks at one word first
 same-break : (ws : List ℕ) (j k : ℕ) → Breaks-at ws j → Breaks-at ws k → j ≡ k
 same-break ws j k p q =
-    elim (cases-order j k)
-    [ inl e ↦ e
-    | inr o ↦ elim o [ inl less ↦ absurd (p .2 (q .1 j less)) | inr more ↦ absurd (q .2 (p .1 k more)) ] ]
+    elim (cases-order j k) [
+      | inl e ↦ e
+      | inr o ↦ elim o [ inl less ↦ absurd (p .2 (q .1 j less)) | inr more ↦ absurd (q .2 (p .1 k more)) ]
+    ]
 
 one-fault : (rows others : List Row) (a b : List ℕ) (j k : ℕ) → All Sound rows → All Sound others → writing rows ++ a ≡ writing others ++ b
-  → Breaks-at a j → Breaks-at b k → 3 * length rows + j ≡ 3 * length others + k
+    → Breaks-at a j → Breaks-at b k → 3 * length rows + j ≡ 3 * length others + k
 one-fault [] [] a b j k i i′ h p q = ap (λ n. 0 + n) (same-break b j k (subst (λ ws. Breaks-at ws j) h p) q)
 one-fault [] (x ∷ others) a b j k i (x-in, i′) h p q =
     absurd (p .2 (subst (λ ws. Fits-at j (getD ws j 0)) (sym h) (row-fits x (writing others ++ b) j x-in (p .0))))
@@ -147,9 +154,10 @@ pub used-words : (ws : List ℕ) (u k : ℕ) → u ≡ min (length ws) k → tak
 used-words ws u k e = grind (arith, take-all)
 
 writing-holds : Writing-holds
-writing-holds rows sound =
-    ( record { sound = sound; after = []; cut = sym (append-nil (writing rows)); ends = refl }
-    , λ more. record { sound = sound; after = 0 ∷ more; cut = refl; ends = refl } )
+writing-holds rows sound = (
+  record { sound = sound; after = []; cut = sym (append-nil (writing rows)); ends = refl },
+  λ more. record { sound = sound; after = 0 ∷ more; cut = refl; ends = refl },
+)
 
 one-writing : One-writing
 one-writing rows ws h = ap (take (3 * length rows)) (h .cut) ∙ take-at (writing rows) (h .after) (3 * length rows) (length-writing rows)
@@ -166,16 +174,25 @@ accepted-is-written ws n (whole, (rows, many, h)) =
     let long = length-writing rows in
     let all : length used ≡ length (writing rows) + length (h .after) = ap length (h .cut) ∙ length-append (writing rows) (h .after) in
     let most = length-take 196605 ws in
-    let few : length rows ≤ 65535 = omega arith in
-    ( rows, h .sound, many, omega arith
-    , ap (λ k. take (3 * k) ws) (sym many) ∙ (sym (take-take (3 * length rows) 196605 ws (omega arith)) ∙ one-writing rows used h)
-    , ap (λ xs. getD xs (3 * n) 0) (h .cut) ∙ (getD-append-right (writing rows) (h .after) (3 * n) (3 * n) 0 (omega arith) (omega arith)
-      ∙ (ap (λ k. getD (h .after) k 0) (omega arith) ∙ h .ends)) )
+    let few : length rows ≤ 65535 = omega arith in (
+      rows,
+      h .sound,
+      many,
+      omega arith,
+      ap (λ k. take (3 * k) ws) (sym many) ∙ (sym (take-take (3 * length rows) 196605 ws (omega arith)) ∙ one-writing rows used h),
+      ap (λ xs. getD xs (3 * n) 0) (h .cut) ∙ (getD-append-right (writing rows) (h .after) (3 * n) (3 * n) 0 (omega arith) (omega arith)
+          ∙ (ap (λ k. getD (h .after) k 0) (omega arith) ∙ h .ends)),
+    )
 
 pub law : Law
 law = record {
-  writing-holds = writing-holds; one-writing = one-writing; one-reading = reads-once;
-  one-answer = one-answer; reads-back = reads-back; accepted-is-written = accepted-is-written }
+  writing-holds = writing-holds;
+  one-writing = one-writing;
+  one-reading = reads-once;
+  one-answer = one-answer;
+  reads-back = reads-back;
+  accepted-is-written = accepted-is-written;
+}
 
 -- what a bound's own words are answered: one row, and the bound itself
 module _ (b : Bound) (ws : List ℕ) (own : ws ≡ row-words (row-of b)) where

@@ -35,7 +35,7 @@ Reads-back = (rows : List Row) → All Sound rows → length rows ≤ 65535 → 
 -- words that are accepted are, up to their end, the writing of the rows found: there the words end, or a zero head stands
 abbrev pub Accepted-is-written : Type 0
 Accepted-is-written = (ws : List ℕ) (n : ℕ) → Checked ws (Ok n)
-  → (rows : List Row) × All Sound rows × (length rows ≡ n) × (n ≤ 65535) × (take (3 * n) ws ≡ writing rows) × (getD (take 196605 ws) (3 * n) 0 ≡ 0)
+    → (rows : List Row) × All Sound rows × (length rows ≡ n) × (n ≤ 65535) × (take (3 * n) ws ≡ writing rows) × (getD (take 196605 ws) (3 * n) 0 ≡ 0)
 
 pub record Law : Type 0 where
   pub writing-holds : Writing-holds

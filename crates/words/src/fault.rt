@@ -21,7 +21,11 @@ impl WordFault {
             WordFault::Length { words } => words,
             WordFault::Word { place } => place,
         };
-        Fault { number: 13, layer: Layer::Books, place }
+        Fault {
+            number: 13,
+            layer: Layer::Books,
+            place,
+        }
     }
 
     // What is wrong, in words.

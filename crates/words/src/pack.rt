@@ -8,9 +8,11 @@ ghost use Rattle.words.specs.Words.{head-word, part-word};
 
 // The two top bits of a word that holds t, and of one that holds s.
 pub(crate) const T_TAG: u32 = 2;
+
 pub(crate) const S_TAG: u32 = 3;
 
 const FIELD: i32 = 0x3fff_ffff;
+
 const GREATEST_PART: i32 = 500_000_000;
 
 pub(crate) fn pack_head(left: u16, right: u16) -> u32
@@ -43,5 +45,9 @@ pub(crate) fn unpack_part(tag: u32, word: u32) -> Option<i32>
     ensures { λ r. ⌜ Cases r (Is-part tag word → ⊥) (λ z. Part z × (word ≡ part-word tag z)) ⌝ }
 {
     let z = (word << 2).cast_signed() >> 2;
-    if word >> 30 == tag && -GREATEST_PART <= z && z <= GREATEST_PART { Some(z) } else { None }
+    if word >> 30 == tag && -GREATEST_PART <= z && z <= GREATEST_PART {
+        Some(z)
+    } else {
+        None
+    }
 }

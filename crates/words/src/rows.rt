@@ -26,7 +26,11 @@ pub fn words_of(bound: Bound) -> [u32; 3]
     ensures law { λ _. ⌜ Law ⌝ }
 {
     let row = bound.row();
-    [pack_head(row.left, row.right), pack_part(T_TAG, row.t), pack_part(S_TAG, row.s)]
+    [
+        pack_head(row.left, row.right),
+        pack_part(T_TAG, row.t),
+        pack_part(S_TAG, row.s),
+    ]
 }
 
 // The bound in a row of three words, or the place from 0 to 2 of the first word that breaks it.
@@ -75,7 +79,9 @@ pub fn check(words: &[u32]) -> Result<usize, WordFault>
     ensures { λ r. ⌜ Checked (now (words .entry)) r ⌝ }
 {
     if words.len() % 3 != 0 {
-        return Err(WordFault::Length { words: words.len() as u64 });
+        return Err(WordFault::Length {
+            words: words.len() as u64,
+        });
     }
     let used = words.len().min(WORDS);
     match count_rows(&words[0..used]) {

@@ -1,9 +1,8 @@
 // How a line is kept.
 ghost use mathlib.Core.Path.{_≡_};
-ghost use mathlib.Core.Bool.{Bool};
 ghost use mathlib.Core.List.{List, [], _∷_, _++_};
 ghost use Prim.Native.Nat.{ℕ};
-ghost use lib.Dec.{eqb};
+ghost use lib.Dec.{eqb, leb};
 ghost use lib.ListN.{length, take};
 ghost use Rattle.lines.specs.Kept.{kept};
 use crate::line::KEPT_BYTES;
@@ -14,15 +13,25 @@ impl Line {
     pub fn new() -> Line
         ensures { λ r. ⌜ kept r ≡ [] ⌝ }
     {
-        Line { bytes: [0; KEPT_BYTES], len: 0 }
+        Line {
+            bytes: [0; KEPT_BYTES],
+            len: 0,
+        }
     }
 
-    // One byte more, which is kept where there is room.
+    // No byte more is kept.
+    fn is_full(&self) -> bool
+        ensures { λ r. ⌜ r ≡ leb 48 (now (self .entry) .len) ⌝ }
+    {
+        self.len >= KEPT_BYTES
+    }
+
+    // One byte more, which is kept where there is room: what is kept goes on to be the front of the line that has come.
     pub fn push(&mut self, b: u8)
         ensures adds { λ _. ⌜ kept (now (self .exit)) ≡ take 48 (kept (now (self .entry)) ++ (b ∷ [])) ⌝ }
         ensures front { λ _. ⌜ ((whole : List ℕ) → kept (now (self .entry)) ≡ take 48 whole → kept (now (self .exit)) ≡ take 48 (whole ++ (b ∷ []))) ⌝ }
     {
-        if self.len < KEPT_BYTES {
+        if !self.is_full() {
             self.bytes[self.len] = b;
             self.len += 1;
         }
@@ -35,6 +44,7 @@ impl Line {
         self.len = 0;
     }
 
+    // No byte is kept, so none has come.
     pub fn is_empty(&self) -> bool
         ensures { λ r. ⌜ r ≡ eqb (length (kept (now (self .entry)))) 0 ⌝ }
     {
@@ -61,7 +71,10 @@ mod tests {
         for b in b'0'..b'p' {
             line.push(b);
         }
-        check_eq(line.bytes(), b"0123456789:;<=>?@ABCDEFGHIJKLMNOPQRSTUVWXYZ[\\]^_")?;
+        check_eq(
+            line.bytes(),
+            b"0123456789:;<=>?@ABCDEFGHIJKLMNOPQRSTUVWXYZ[\\]^_",
+        )?;
         line.clear();
         check(line.is_empty())
     }

@@ -1,4 +1,3 @@
-use borrow.Author.Needs.{needs}
 use mathlib.Core.Path.{sym, _∙_, ap}
 use lib.Dec.{lit≤}
 use Rattle.lines.specs.Decimal.{number}

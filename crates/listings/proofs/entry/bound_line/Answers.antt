@@ -13,5 +13,5 @@ returns-in-Break-bound c =
     let p = err-from-errBy (c .from-residual-in-Break-bound .result) (c .from-residual-in-Break-bound .ensures .1) in
     let f = c .in-Continue-numbers .numbers in
     rw (p .1, p .2) (bound-refused (c .args .line .now) f _ _ _ _ _
-      (toZ-ofZ w64 (f .left) (search needs)) (toZ-ofZ w64 (f .right) (search needs)) (toZ-ofZ w64 (f .t) (search needs)) (toZ-ofZ w64 (f .s) (search needs))
-      (c .in-Continue-numbers .ensures tt .reads) (c .in-Break-bound .ensures tt))
+    (toZ-ofZ w64 (f .left) (search needs)) (toZ-ofZ w64 (f .right) (search needs)) (toZ-ofZ w64 (f .t) (search needs)) (toZ-ofZ w64 (f .s) (search needs))
+    (c .in-Continue-numbers .ensures tt .reads) (c .in-Break-bound .ensures tt))
