@@ -6,5 +6,5 @@ use Rattle.std.specs.Written.{decimal, signed}
 use Rattle.bounds.specs.declared.row.Row.{Row}
 
 -- the four numbers in decimal, a space between each two: `left right t s`
-unfoldable pub row-text : Row → List ℕ
+abbrev pub row-text : Row → List ℕ
 row-text r = decimal (r .left) ++ (codes " " ++ (decimal (r .right) ++ (codes " " ++ (signed (r .t) ++ (codes " " ++ signed (r .s))))))

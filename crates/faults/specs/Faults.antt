@@ -17,5 +17,5 @@ letter-of Plans = 80
 letter-of Lines = 76
 
 -- the bytes of a fault in a sentence, as "fault 7, layer D, place 1"
-unfoldable pub fault-text : Fault → List ℕ
+abbrev pub fault-text : Fault → List ℕ
 fault-text f = codes "fault " ++ (decimal (f .number) ++ (codes ", layer " ++ (encode (letter-of (f .layer)) ++ (codes ", place " ++ decimal (f .place)))))

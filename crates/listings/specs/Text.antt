@@ -14,6 +14,6 @@ abbrev pub digit-at : ℕ → ℕ → List ℕ
 digit-at k w = encode (hex-digit (w / 16 ^ k % 16))
 
 -- a word as eight digits, the most significant first
-unfoldable pub hex-text : ℕ → List ℕ
+abbrev pub hex-text : ℕ → List ℕ
 hex-text w =
     digit-at 7 w ++ (digit-at 6 w ++ (digit-at 5 w ++ (digit-at 4 w ++ (digit-at 3 w ++ (digit-at 2 w ++ (digit-at 1 w ++ digit-at 0 w))))))

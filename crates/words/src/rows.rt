@@ -1,6 +1,7 @@
 // The words of a bound, the bound of three words, and the rows of a whole buffer.
 ghost use mathlib.Core.Path.{_≡_};
-ghost use Prim.Native.Nat.{_%_, _≤_};
+ghost use Prim.Native.Nat.{_%_, _≤_, min};
+ghost use lib.Dec.{eqb};
 ghost use lib.ListN.{length};
 ghost use Rattle.std.specs.Results.{Cases};
 ghost use Rattle.bounds.specs.Making.{row-of};
@@ -20,10 +21,8 @@ use bounds::Row;
 // 65,535 rows: words past them are neither read nor written.
 const WORDS: usize = 196_605;
 
-// The three words of a bound. The law says that rows of words have one writing and one reading.
-pub fn words_of(bound: Bound) -> [u32; 3]
-    ensures value { λ r. ⌜ r ≡ row-words (row-of bound) ⌝ }
-    ensures law { λ _. ⌜ Law ⌝ }
+fn written(bound: Bound) -> [u32; 3]
+    ensures { λ r. ⌜ r ≡ row-words (row-of bound) ⌝ }
 {
     let row = bound.row();
     [
@@ -31,6 +30,14 @@ pub fn words_of(bound: Bound) -> [u32; 3]
         pack_part(T_TAG, row.t),
         pack_part(S_TAG, row.s),
     ]
+}
+
+// The three words of a bound. The law says that rows of words have one writing and one reading.
+pub fn words_of(bound: Bound) -> [u32; 3]
+    ensures value { λ r. ⌜ r ≡ row-words (row-of bound) ⌝ }
+    ensures law { λ _. ⌜ Law ⌝ }
+{
+    written(bound)
 }
 
 // The bound in a row of three words, or the place from 0 to 2 of the first word that breaks it.
@@ -53,6 +60,20 @@ pub fn bound_of(head: u32, t: u32, s: u32) -> Result<Bound, WordFault>
     }
 }
 
+// A zero head ends the rows.
+fn is_end(head: u32) -> bool
+    ensures { λ r. ⌜ r ≡ eqb head 0 ⌝ }
+{
+    head == 0
+}
+
+// How many of a buffer's words are read.
+fn used(words: usize) -> usize
+    ensures { λ r. ⌜ r ≡ min words 196605 ⌝ }
+{
+    words.min(WORDS)
+}
+
 // How many rows the words hold, or the place of the first word that breaks its row.
 fn count_rows(words: &[u32]) -> Result<usize, u64>
     requires { ⌜ length (now words) % 3 ≡ 0 ⌝ ∗ ⌜ length (now words) ≤ 196605 ⌝ }
@@ -61,7 +82,7 @@ fn count_rows(words: &[u32]) -> Result<usize, u64>
     let mut rest = words;
     let mut n = 0;
     while let [head, t, s, tail @ ..] = rest {
-        if *head == 0 {
+        if is_end(*head) {
             return Ok(n);
         }
         match read_row(*head, *t, *s) {
@@ -83,7 +104,7 @@ pub fn check(words: &[u32]) -> Result<usize, WordFault>
             words: words.len() as u64,
         });
     }
-    let used = words.len().min(WORDS);
+    let used = used(words.len());
     match count_rows(&words[0..used]) {
         Ok(rows) => Ok(rows),
         Err(place) => Err(WordFault::Word { place }),

@@ -1,6 +1,5 @@
-use borrow.Author.Needs.{needs}
 use Rattle.words.proofs.Readings.{law}
 use Rattle.words.proofs.rows.words_of.Needs as need
 
 pub returns : need.returns
-returns c = record { value = search needs; law = law }
+returns c = record { value = c .written .ensures; law = law }
