@@ -17,7 +17,7 @@ solid-rest : (b : ℕ) (bs : List ℕ) → Solid (b ∷ bs) → Solid bs
 solid-rest b bs h k l = h (suc k) (omega arith)
 
 -- a byte that is no space may stand in front
-solid-more : (b : ℕ) (bs : List ℕ) → (b ≡ 32 → ⊥) → Solid bs → Solid (b ∷ bs)
+pub solid-more : (b : ℕ) (bs : List ℕ) → (b ≡ 32 → ⊥) → Solid bs → Solid (b ∷ bs)
 solid-more b bs other h zero l e = other e
 solid-more b bs other h (suc k) l e = h k (omega arith) e
 

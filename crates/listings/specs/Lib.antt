@@ -5,3 +5,4 @@ pub mod Counts
 pub mod Printing
 pub mod Sessions
 pub mod Tools
+pub mod Back

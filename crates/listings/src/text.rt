@@ -3,6 +3,7 @@ ghost use mathlib.Core.Path.{_≡_};
 ghost use Rattle.std.specs.Of.String.{string-bytes};
 ghost use Rattle.std.specs.Vec.{made};
 ghost use Rattle.bounds.specs.Making.{row-of};
+ghost use Rattle.listings.specs.Back.{Text-returns};
 ghost use Rattle.listings.specs.Printing.{bound-text, refusal-text, entry-text, done-of, verdict-of, summary-text};
 use crate::entry::Entry;
 use crate::fault::ListingFault;
@@ -42,7 +43,8 @@ fn refusal_text(heap: Global, number: u64, fault: ListingFault) -> Result<String
 
 // What the task prints for the line with this number: nothing for a note.
 pub fn entry_text(heap: Global, task: Task, number: u64, entry: Entry) -> Result<String, AllocError>
-    ensures { λ r. ⌜ made r (λ x. string-bytes x ≡ entry-text task number entry) ⌝ }
+    ensures value { λ r. ⌜ made r (λ x. string-bytes x ≡ entry-text task number entry) ⌝ }
+    ensures back { λ _. ⌜ Text-returns ⌝ }
 {
     match entry {
         Entry::Note => Ok(String::new(heap)),

@@ -1,7 +1,7 @@
 -- Laws of the writing of rows. Assumes nothing.
 use mathlib.Core.Path.{_≡_, refl, sym, _∙_, ap}
 use mathlib.Core.List.{List, [], _∷_, _++_, append-assoc}
-use Prim.Native.Nat.{ℕ, zero, suc, _+_, _*_, _<_, _≤_}
+use Prim.Native.Nat.{ℕ, zero, suc, _+_, _*_, _^_, _<_, _≤_}
 use native.Mathlib.Omega.{arith}
 use lib.IntN.{ℤ, pos, negsuc}
 use lib.ListN.{length, getD, drop}
@@ -19,6 +19,11 @@ writing-push rows r rest = sym (append-assoc (writing rows) (row-words r) rest) 
 pub length-writing : (rows : List Row) → length (writing rows) ≡ 3 * length rows
 length-writing [] = refl
 length-writing (r ∷ rows) = let more = length-writing rows in omega arith
+
+-- a part fits 30 bits
+pub twos-small : (z : ℤ) → Part z → twos z < 2 ^ 30
+twos-small (pos n) h = omega (arith, ints)
+twos-small (negsuc n) h = omega (arith, ints)
 
 -- a word holds one part at most
 same-part : (tag : ℕ) (y z : ℤ) → Part y → Part z → part-word tag y ≡ part-word tag z → y ≡ z
