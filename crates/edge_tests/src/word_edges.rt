@@ -28,7 +28,10 @@ fn words_of_bounds() -> Result<(), Fail> {
         ([0, 1, -20, 0], ROW),
         ([0, 0, 0, 0], [0x4000_0000, 0x8000_0000, 0xc000_0000]),
         ([4095, 4095, -1, 1], [0x40ff_ffff, 0xbfff_ffff, 0xc000_0001]),
-        ([1, 0, 500_000_000, -500_000_000], [0x4000_1000, 0x9dcd_6500, 0xe232_9b00]),
+        (
+            [1, 0, 500_000_000, -500_000_000],
+            [0x4000_1000, 0x9dcd_6500, 0xe232_9b00],
+        ),
     ];
     for ([left, right, t, s], words) in table {
         let bound = Bound::new(left, right, t, s)?;
@@ -67,7 +70,10 @@ fn short_buffers() -> Result<(), Fail> {
     check_eq(check_words(&[]), Ok(0))?;
     check_eq(check_words(&[head]), Err(WordFault::Length { words: 1 }))?;
     check_eq(check_words(&[0, 0]), Err(WordFault::Length { words: 2 }))?;
-    check_eq(check_words(&[head, t, s, head]), Err(WordFault::Length { words: 4 }))?;
+    check_eq(
+        check_words(&[head, t, s, head]),
+        Err(WordFault::Length { words: 4 }),
+    )?;
     check_eq(check_words(&[0, 7, 7]), Ok(0))?;
     check_eq(check_words(&ROW), Ok(1))?;
     check_eq(check_words(&[head, t, s, 0, 7, 7]), Ok(1))?;
@@ -93,7 +99,10 @@ fn the_longest_buffers(rt: LibcRuntime) -> Result<(), Fail> {
     check_eq(words.len(), 196_608)?;
     check_eq(check_words(words.as_slice()), Ok(65_535))?;
     words.push(7)?;
-    check_eq(check_words(words.as_slice()), Err(WordFault::Length { words: 196_609 }))
+    check_eq(
+        check_words(words.as_slice()),
+        Err(WordFault::Length { words: 196_609 }),
+    )
 }
 
 #[test]

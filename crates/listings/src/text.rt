@@ -41,16 +41,22 @@ fn refusal_text(heap: Global, number: u64, fault: ListingFault) -> Result<String
     format!(heap, "line {number} refused: {reason} ({fault})\n")
 }
 
-// What the task prints for the line with this number: nothing for a note.
-pub fn entry_text(heap: Global, task: Task, number: u64, entry: Entry) -> Result<String, AllocError>
-    ensures value { λ r. ⌜ made r (λ x. string-bytes x ≡ entry-text task number entry) ⌝ }
-    ensures back { λ _. ⌜ Text-returns ⌝ }
+fn printed(heap: Global, task: Task, number: u64, entry: Entry) -> Result<String, AllocError>
+    ensures { λ r. ⌜ made r (λ x. string-bytes x ≡ entry-text task number entry) ⌝ }
 {
     match entry {
         Entry::Note => Ok(String::new(heap)),
         Entry::Bound(bound) => bound_text(heap, task, bound),
         Entry::Refused(fault) => refusal_text(heap, number, fault),
     }
+}
+
+// What the task prints for the line with this number: nothing for a note. What is printed for a bound is read as that bound.
+pub fn entry_text(heap: Global, task: Task, number: u64, entry: Entry) -> Result<String, AllocError>
+    ensures value { λ r. ⌜ made r (λ x. string-bytes x ≡ entry-text task number entry) ⌝ }
+    ensures back { λ _. ⌜ Text-returns ⌝ }
+{
+    printed(heap, task, number, entry)
 }
 
 fn done(task: Task) -> &'static str
