@@ -1,3 +1,4 @@
 pub mod Entries
 pub mod Prints
 pub mod Pieces
+pub mod Once
