@@ -53,3 +53,7 @@ pub record Prints (task : Task) (input text : List ℕ) (d : Tally) : Type 0 whe
   pub ending : List ℕ
   pub closes : Closes task counts left ending d
   pub text-is : text ≡ answers ++ ending
+
+-- an input has one printing, and one tally
+abbrev pub One-printing : Type 0
+One-printing = (task : Task) (input a b : List ℕ) (c d : Tally) → Prints task input a c → Prints task input b d → (a ≡ b) × (c ≡ d)

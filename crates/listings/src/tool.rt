@@ -6,7 +6,7 @@ ghost use Rattle.std.specs.Of.String.{string-bytes};
 ghost use Rattle.std.specs.Vec.{made};
 ghost use Rattle.lines.specs.Kept.{kept};
 ghost use Rattle.listings.specs.Counts.{none-yet};
-ghost use Rattle.listings.specs.Sessions.{Prints, Tells};
+ghost use Rattle.listings.specs.Sessions.{Prints, Tells, One-printing};
 ghost use Rattle.listings.specs.Tools.{Follows, Ends-with};
 use crate::entry::entry_of;
 use crate::task::Tally;
@@ -111,7 +111,8 @@ impl Tool {
 
 // The tool on a whole input.
 pub fn run(heap: Global, task: Task, input: &[u8]) -> Result<Ending, AllocError>
-    ensures { λ r. ⌜ made r (λ e. Prints task (now (input .entry)) (string-bytes (e .text)) (e .tally)) ⌝ }
+    ensures prints { λ r. ⌜ made r (λ e. Prints task (now (input .entry)) (string-bytes (e .text)) (e .tally)) ⌝ }
+    ensures once { λ _. ⌜ One-printing ⌝ }
 {
     let mut tool = Tool::new(task);
     let mut text = tool.feed(heap, input)?;

@@ -16,6 +16,7 @@ use Rattle.bounds.specs.declared.bound.Bound.{Bound}
 use Rattle.bounds.specs.declared.row.Row.{Row}
 use Rattle.bounds.specs.Making.{row-of}
 use Rattle.bounds.specs.Range.{Sound}
+use Rattle.bounds.proofs.Makes.{Same-bound}
 use Rattle.words.specs.declared.fault.WordFault.{WordFault}
 use Rattle.words.specs.declared.fault.WordFault.the-variants.{Length, Word}
 use Rattle.words.specs.Words.{row-words, writing}
@@ -108,6 +109,20 @@ same-break ws j k p q =
       | inl e ↦ e
       | inr o ↦ elim o [ inl less ↦ absurd (p .2 (q .1 j less)) | inr more ↦ absurd (q .2 (p .1 k more)) ]
     ]
+
+-- the words of a bound do not break their row
+own-whole : (h t s : ℕ) (b : Bound) (k : ℕ) → row-words (row-of b) ≡ h ∷ (t ∷ (s ∷ [])) → Breaks-at (h ∷ (t ∷ (s ∷ []))) k → ⊥
+own-whole h t s b k own (small, fit, bad) = bad (subst (λ ws. Fits-at k (getD ws k 0)) own (row-fits (row-of b) [] k (b .sound) small))
+
+-- three words have one answer
+pub bound-read-once : (h t s : ℕ) (q r : Result Bound WordFault) → Bound-read h t s q → Bound-read h t s r → Same-bound q r
+bound-read-once h t s (Ok b) (Ok d) p q = same-row (row-of b) (row-of d) [] [] (b .sound) (d .sound) (p ∙ sym q) .0
+bound-read-once h t s (Ok b) (Err (Length n)) p never = never
+bound-read-once h t s (Ok b) (Err (Word k)) p q = own-whole h t s b k p q
+bound-read-once h t s (Err (Length n)) r never q = absurd never
+bound-read-once h t s (Err (Word j)) (Ok d) p q = own-whole h t s d j q p
+bound-read-once h t s (Err (Word j)) (Err (Length n)) p never = absurd never
+bound-read-once h t s (Err (Word j)) (Err (Word k)) p q = ap (λ n. Word n) (same-break (h ∷ (t ∷ (s ∷ []))) j k p q)
 
 one-fault : (rows others : List Row) (a b : List ℕ) (j k : ℕ) → All Sound rows → All Sound others → writing rows ++ a ≡ writing others ++ b
     → Breaks-at a j → Breaks-at b k → 3 * length rows + j ≡ 3 * length others + k

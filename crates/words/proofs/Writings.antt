@@ -9,6 +9,7 @@ use Rattle.std.proofs.shelf.Lists.{joined-more}
 use Rattle.std.proofs.shelf.Signed.{ints}
 use Rattle.bounds.specs.declared.row.Row.{Row}
 use Rattle.bounds.specs.Range.{Part, Sound}
+use Rattle.bounds.proofs.Makes.{row-same}
 use Rattle.words.specs.Words.{twos, head-word, part-word, row-words, writing}
 use Rattle.words.specs.Reading.{Fits-at}
 
@@ -32,21 +33,13 @@ same-part tag (pos m) (negsuc n) p q e = absurd (let k : ⊥ = omega (arith, int
 same-part tag (negsuc m) (pos n) p q e = absurd (let k : ⊥ = omega (arith, ints) in k)
 same-part tag (negsuc m) (negsuc n) p q e = ap negsuc (omega (arith, ints))
 
-row-at : ℕ → ℕ → ℤ → ℤ → Row
-row-at l r t s = record { left = l; right = r; t = t; s = s }
-
 -- three words are those of one row at most
 pub same-row : (a b : Row) (xs ys : List ℕ) → Sound a → Sound b → row-words a ++ xs ≡ row-words b ++ ys → (a ≡ b) × (xs ≡ ys)
-unfolding row-at
 same-row a b xs ys (l, r, t, s) (l′, r′, t′, s′) e =
     let head : head-word (a .left) (a .right) ≡ head-word (b .left) (b .right) = cc in
     let t-word : part-word 2 (a .t) ≡ part-word 2 (b .t) = cc in
     let s-word : part-word 3 (a .s) ≡ part-word 3 (b .s) = cc in
-    let left : a .left ≡ b .left = omega arith in
-    let right : a .right ≡ b .right = omega arith in
-    let t-same = same-part 2 (a .t) (b .t) t t′ t-word in
-    let s-same = same-part 3 (a .s) (b .s) s s′ s-word in
-    let same : row-at (a .left) (a .right) (a .t) (a .s) ≡ row-at (b .left) (b .right) (b .t) (b .s) = cc in
+    let same = row-same a b (omega arith) (omega arith) (same-part 2 (a .t) (b .t) t t′ t-word) (same-part 3 (a .s) (b .s) s s′ s-word) in
     (same, cc)
 
 -- no word of a bound's row breaks it
