@@ -2,6 +2,7 @@
 ghost use mathlib.Core.Path.{_≡_};
 ghost use mathlib.Core.List.{List, [], _∷_, _++_};
 ghost use Prim.Native.Nat.{ℕ};
+ghost use lib.Dec.{eqb};
 ghost use Rattle.std.specs.Of.String.{string-bytes};
 ghost use Rattle.std.specs.Vec.{made};
 ghost use Rattle.lines.specs.Kept.{kept};
@@ -16,6 +17,12 @@ use crate::text::summary_text;
 use lines::line::Line;
 use std::alloc::AllocError;
 use std::alloc::Global;
+
+fn ends_line(b: u8) -> bool
+    ensures { λ r. ⌜ r ≡ eqb b 10 ⌝ }
+{
+    b == b'\n'
+}
 
 // A task that has come to some place of its input. Of the line that it is in, it keeps what decides.
 #[derive(Drop)]
@@ -61,7 +68,7 @@ impl Tool {
     fn step(&mut self, heap: Global, b: u8) -> Result<String, AllocError>
         ensures { λ r. ⌜ made r (λ x. Follows (now (self .entry)) (b ∷ []) (string-bytes x) (now (self .exit))) ⌝ }
     {
-        if b == b'\n' {
+        if ends_line(b) {
             self.end_line(heap)
         } else {
             self.line.push(b);
