@@ -15,9 +15,9 @@ abbrev pub figures-of : Figures → List ℤ
 figures-of f = f .left ∷ (f .right ∷ (f .t ∷ (f .s ∷ [])))
 
 -- the fields are just the four numbers of the answer, or the one that it refuses is the first at fault
-abbrev pub FourNumbers : List (List ℕ) → Result Figures LineFault → Type 0
-FourNumbers fs r = readings number 1 4 fs ≡ listed figures-of r
+abbrev pub Four-numbers : List (List ℕ) → Result Figures LineFault → Type 0
+Four-numbers fs r = readings number 1 4 fs ≡ listed figures-of r
 
 -- the fields are just the three words of the answer, an array, or the one that it refuses is the first at fault
-abbrev pub ThreeWords : List (List ℕ) → Result (List ℕ) LineFault → Type 0
-ThreeWords fs r = readings word 1 3 fs ≡ listed (λ ws. ws) r
+abbrev pub Three-words : List (List ℕ) → Result (List ℕ) LineFault → Type 0
+Three-words fs r = readings word 1 3 fs ≡ listed (λ ws. ws) r

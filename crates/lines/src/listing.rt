@@ -4,7 +4,7 @@ ghost use mathlib.Core.List.{List};
 ghost use Prim.Native.Nat.{ℕ};
 ghost use lib.ListN.{take};
 ghost use Rattle.lines.specs.Fields.{fields, left-of};
-ghost use Rattle.lines.specs.Listing.{FourNumbers, ThreeWords};
+ghost use Rattle.lines.specs.Listing.{Four-numbers, Three-words};
 use crate::fault::LineFault;
 use crate::fields::Fields;
 
@@ -20,7 +20,7 @@ pub struct Figures {
 impl<'a> Fields<'a> {
     // The four numbers that are all the fields left, the first at place 1.
     pub fn last_four_numbers(&mut self) -> Result<Figures, LineFault>
-        ensures { λ r. ⌜ FourNumbers (left-of (now (self .entry))) r ⌝ }
+        ensures { λ r. ⌜ Four-numbers (left-of (now (self .entry))) r ⌝ }
     {
         let left = self.number(1)?;
         let right = self.number(2)?;
@@ -32,7 +32,7 @@ impl<'a> Fields<'a> {
 
     // The three words that are all the fields left, the first at place 1.
     pub fn last_three_words(&mut self) -> Result<[u32; 3], LineFault>
-        ensures { λ r. ⌜ ThreeWords (left-of (now (self .entry))) r ⌝ }
+        ensures { λ r. ⌜ Three-words (left-of (now (self .entry))) r ⌝ }
     {
         let head = self.word(1)?;
         let t = self.word(2)?;
@@ -44,8 +44,8 @@ impl<'a> Fields<'a> {
 
 // The four numbers of a line. Its first 48 bytes decide them: each has at most eleven bytes, and a longer field is refused.
 pub fn four_numbers(line: &[u8]) -> Result<Figures, LineFault>
-    ensures reads { λ r. ⌜ FourNumbers (fields (now (line .entry))) r ⌝ }
-    ensures front { λ r. ⌜ ((whole : List ℕ) → now (line .entry) ≡ take 48 whole → FourNumbers (fields whole) r) ⌝ }
+    ensures reads { λ r. ⌜ Four-numbers (fields (now (line .entry))) r ⌝ }
+    ensures front { λ r. ⌜ ((whole : List ℕ) → now (line .entry) ≡ take 48 whole → Four-numbers (fields whole) r) ⌝ }
 {
     let mut fields = Fields::new(line);
     fields.last_four_numbers()
@@ -53,8 +53,8 @@ pub fn four_numbers(line: &[u8]) -> Result<Figures, LineFault>
 
 // The three words of a line, which its first 48 bytes decide too: each has eight.
 pub fn three_words(line: &[u8]) -> Result<[u32; 3], LineFault>
-    ensures reads { λ r. ⌜ ThreeWords (fields (now (line .entry))) r ⌝ }
-    ensures front { λ r. ⌜ ((whole : List ℕ) → now (line .entry) ≡ take 48 whole → ThreeWords (fields whole) r) ⌝ }
+    ensures reads { λ r. ⌜ Three-words (fields (now (line .entry))) r ⌝ }
+    ensures front { λ r. ⌜ ((whole : List ℕ) → now (line .entry) ≡ take 48 whole → Three-words (fields whole) r) ⌝ }
 {
     let mut fields = Fields::new(line);
     fields.last_three_words()

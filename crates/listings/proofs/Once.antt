@@ -20,7 +20,7 @@ use Rattle.lines.specs.Decimal.{number}
 use Rattle.lines.specs.Hex.{word}
 use Rattle.lines.specs.Reading.{readings, listed}
 use Rattle.lines.specs.Fields.{fields}
-use Rattle.lines.specs.Listing.{figures-of, FourNumbers, ThreeWords}
+use Rattle.lines.specs.Listing.{figures-of, Four-numbers, Three-words}
 use Rattle.words.specs.declared.fault.WordFault.{WordFault}
 use Rattle.words.specs.Words.{row-words}
 use Rattle.words.specs.Reading.{Bound-read}
@@ -106,14 +106,14 @@ Row-of-words ws a = Bound-read (getD ws 0 0) (getD ws 1 0) (getD ws 2 0) a
 -- what one line holds
 module _ (line : List ℕ) where
   -- a line of numbers is answered by way of its fields
-  bound-through : (q : Result BoundT ListingFault) → Bound-line line q → Through (FourNumbers (fields line)) Makes of-bound q
+  bound-through : (q : Result BoundT ListingFault) → Bound-line line q → Through (Four-numbers (fields line)) Makes of-bound q
   bound-through (Ok b) (f, reads, made) = inr (f, Ok b, reads, made, refl)
   bound-through (Err (Line e)) reads = inl (e, reads, refl)
   bound-through (Err (Bound e)) (f, reads, out) = inr (f, Err e, reads, out, refl)
   bound-through (Err (Word e)) never = absurd never
 
   -- and so is a line of words
-  words-through : (q : Result BoundT ListingFault) → Words-line line q → Through (ThreeWords (fields line)) Row-of-words of-word q
+  words-through : (q : Result BoundT ListingFault) → Words-line line q → Through (Three-words (fields line)) Row-of-words of-word q
   words-through (Ok b) reads = inr (row-words (row-of b), Ok b, reads, refl, refl)
   words-through (Err (Line e)) reads = inl (e, reads, refl)
   words-through (Err (Bound e)) never = absurd never
@@ -122,13 +122,13 @@ module _ (line : List ℕ) where
   -- a line of numbers has one answer
   bound-line-once : (q r : Result BoundT ListingFault) → Bound-line line q → Bound-line line r → Same-bound q r
   bound-line-once q r h g =
-      through-once (FourNumbers (fields line)) Makes of-bound (listed-once figures-of figures-told (readings number 1 4 (fields line)))
+      through-once (Four-numbers (fields line)) Makes of-bound (listed-once figures-of figures-told (readings number 1 4 (fields line)))
       (λ f. made-once (f .left) (f .right) (f .t) (f .s)) q r (bound-through q h) (bound-through r g)
 
   -- a line of words has one answer
   words-line-once : (q r : Result BoundT ListingFault) → Words-line line q → Words-line line r → Same-bound q r
   words-line-once q r h g =
-      through-once (ThreeWords (fields line)) Row-of-words of-word (listed-once (λ ws. ws) (λ x y e. e) (readings word 1 3 (fields line)))
+      through-once (Three-words (fields line)) Row-of-words of-word (listed-once (λ ws. ws) (λ x y e. e) (readings word 1 3 (fields line)))
       (λ ws. bound-read-once (getD ws 0 0) (getD ws 1 0) (getD ws 2 0)) q r (words-through q h) (words-through r g)
 
   -- a line holds one bound for a task, or is refused for one fault

@@ -26,8 +26,8 @@ use Rattle.listings.specs.declared.tool.Tool.{Tool}
 use Rattle.listings.specs.Lines.{Bound-line, Words-line, Line-of, Entry-of}
 use Rattle.listings.specs.Printing.{summary-text}
 use Rattle.listings.specs.Counts.{none-yet}
-use Rattle.listings.specs.Sessions.{One-line, ended, Tells, Answered, Session, Closes, Prints}
-use Rattle.listings.specs.Tools.{Has-read, Follows, Ends-with}
+use Rattle.listings.specs.Sessions.{One-line, ended, Tells, Answered, Session, Closes}
+use Rattle.listings.specs.Tools.{Has-read, Follows, Ends-with, Pieces-join, Whole-prints}
 
 -- the first 48 bytes of a line decide what it holds
 module _ (whole : List ℕ) where
@@ -92,7 +92,7 @@ follows-none tool text none = record {
 }
 
 -- two pieces are answered as one
-pub follows-append : (a b z : Tool) (x y o p : List ℕ) → Follows a x o b → Follows b y p z → Follows a (x ++ y) (o ++ p) z
+pub follows-append : Pieces-join
 follows-append a b z x y o p f g = record {
   task = g .task ∙ f .task;
   goes = λ part h.
@@ -153,18 +153,18 @@ follows-push a b z piece i out text more within f g e =
     subst (λ o. Follows a (take (i + 1) piece) o z) (sym e)
     (subst (λ x. Follows a x (out ++ text) z) (sym (take-more piece i 0 within)) (follows-append a b z (take i piece) (getD piece i 0 ∷ []) out text f g))
 
--- a new tool, the whole input, and its end
-pub prints : (task : Task) (a b : Tool) (input o p text : List ℕ) (d : Tally) → a .task ≡ task → a .tally ≡ none-yet → kept (a .line) ≡ []
-    → Follows a input o b → Ends-with b p d → text ≡ o ++ p → Prints task input text d
-prints task a b input o p text d same zero empty f closes e =
-    let first = f .goes [] (tt, empty) in
+-- a fresh tool, the whole input, and its end
+pub whole-prints : Whole-prints
+whole-prints task tool after input o p d fresh f closes =
+    let first = f .goes [] (tt, fresh .line-is) in
     record {
       answers = o;
-      counts = b .tally;
+      counts = after .tally;
       left = first .0;
       part = first .1 .0;
       ending = p;
-      text-is = e;
-      session = subst (λ t. Session t none-yet [] input o (b .tally) (first .0)) same (subst (λ z. Session (a .task) z [] input o (b .tally) (first .0)) zero (first .2));
-      closes = subst (λ t. Closes t (b .tally) (first .0) p d) (f .task ∙ same) (closes (first .0) (first .1));
+      text-is = refl;
+      session = subst (λ t. Session t none-yet [] input o (after .tally) (first .0)) (fresh .task-is)
+          (subst (λ z. Session (tool .task) z [] input o (after .tally) (first .0)) (fresh .tally-is) (first .2));
+      closes = subst (λ t. Closes t (after .tally) (first .0) p d) (f .task ∙ fresh .task-is) (closes (first .0) (first .1));
     }

@@ -6,9 +6,8 @@ ghost use lib.Dec.{eqb};
 ghost use Rattle.std.specs.Of.String.{string-bytes};
 ghost use Rattle.std.specs.Vec.{made};
 ghost use Rattle.lines.specs.Kept.{kept};
-ghost use Rattle.listings.specs.Counts.{none-yet};
-ghost use Rattle.listings.specs.Sessions.{Prints, Tells, One-printing};
-ghost use Rattle.listings.specs.Tools.{Follows, Ends-with};
+ghost use Rattle.listings.specs.Sessions.{Prints, Tells};
+ghost use Rattle.listings.specs.Tools.{Follows, Ends-with, Fresh, Law};
 use crate::entry::entry_of;
 use crate::task::Tally;
 use crate::task::Task;
@@ -40,16 +39,22 @@ pub struct Ending {
 }
 
 impl Tool {
-    pub fn new(task: Task) -> Tool
-        ensures task { λ r. ⌜ r .task ≡ task ⌝ }
-        ensures tally { λ r. ⌜ r .tally ≡ none-yet ⌝ }
-        ensures line { λ r. ⌜ kept (r .line) ≡ [] ⌝ }
+    fn fresh(task: Task) -> Tool
+        ensures { λ r. ⌜ Fresh task r ⌝ }
     {
         Tool {
             task,
             line: Line::new(),
             tally: Tally::new(),
         }
+    }
+
+    // A tool that has read nothing. The law says that what it prints does not depend on the pieces in which its input comes.
+    pub fn new(task: Task) -> Tool
+        ensures fresh { λ r. ⌜ Fresh task r ⌝ }
+        ensures law { λ _. ⌜ Law ⌝ }
+    {
+        Tool::fresh(task)
     }
 
     // The line is whole: what is printed for it.
@@ -118,8 +123,7 @@ impl Tool {
 
 // The tool on a whole input.
 pub fn run(heap: Global, task: Task, input: &[u8]) -> Result<Ending, AllocError>
-    ensures prints { λ r. ⌜ made r (λ e. Prints task (now (input .entry)) (string-bytes (e .text)) (e .tally)) ⌝ }
-    ensures once { λ _. ⌜ One-printing ⌝ }
+    ensures { λ r. ⌜ made r (λ e. Prints task (now (input .entry)) (string-bytes (e .text)) (e .tally)) ⌝ }
 {
     let mut tool = Tool::new(task);
     let mut text = tool.feed(heap, input)?;

@@ -79,9 +79,9 @@ fn count_rows(words: &[u32]) -> Result<usize, u64>
     requires { ⌜ length (now words) % 3 ≡ 0 ⌝ ∗ ⌜ length (now words) ≤ 196605 ⌝ }
     ensures { λ r. ⌜ Rows-read (now (words .entry)) r ⌝ }
 {
-    let mut rest = words;
+    let mut unread = words;
     let mut n = 0;
-    while let [head, t, s, tail @ ..] = rest {
+    while let [head, t, s, rest @ ..] = unread {
         if is_end(*head) {
             return Ok(n);
         }
@@ -90,7 +90,7 @@ fn count_rows(words: &[u32]) -> Result<usize, u64>
             Err(place) => return Err(3 * n as u64 + place),
         }
         n += 1;
-        rest = tail;
+        unread = rest;
     }
     Ok(n)
 }

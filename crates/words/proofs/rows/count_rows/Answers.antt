@@ -6,15 +6,15 @@ use Rattle.words.proofs.rows.count_rows.Needs as need
 
 pub returns-in-Err : need.returns-in-Err
 returns-in-Err c =
-    let rest = c .loop-rest .rest .now in
+    let rest = c .loop-unread .unread .now in
     let three : 3 ≤ length rest = search needs in
-    passed-broken _ _ rest _ (c .loop-rest .inv .0) three (search needs) (c .in-Err .ensures tt)
+    passed-broken _ _ rest _ (c .loop-unread .inv .0) three (search needs) (c .in-Err .ensures tt)
 
-pub loop-rest-again : need.loop-rest-again
-loop-rest-again c =
-    let rest = c .loop-rest .rest .now in
+pub loop-unread-again : need.loop-unread-again
+loop-unread-again c =
+    let rest = c .loop-unread .unread .now in
     let three : 3 ≤ length rest = search needs in
-    (passed-more _ _ rest (c .in-Ok .field-0) (c .loop-rest .inv .0) three (c .in-Ok .ensures tt), search needs)
+    (passed-more _ _ rest (c .in-Ok .field-0) (c .loop-unread .inv .0) three (c .in-Ok .ensures tt), search needs)
 
 pub returns : need.returns
-returns c = passed-all _ _ _ (c .loop-rest .inv .0) (search needs)
+returns c = passed-all _ _ _ (c .loop-unread .inv .0) (search needs)

@@ -4,8 +4,8 @@ use lib.ListN.{length}
 use Rattle.words.proofs.Readings.{Passed}
 use Rattle.words.proofs.rows.count_rows.Given as given
 
-abbrev pub Inv-loop-rest : given.InvT-loop-rest
-Inv-loop-rest l = Passed (l .words) (l .n) (l .rest) × (length (l .words) ≡ 3 * l .n + length (l .rest))
+abbrev pub Inv-loop-unread : given.InvT-loop-unread
+Inv-loop-unread l = Passed (l .words) (l .n) (l .unread) × (length (l .words) ≡ 3 * l .n + length (l .unread))
 
-abbrev pub μ-loop-rest : given.MeasureT-loop-rest
-μ-loop-rest l = length (l .rest)
+abbrev pub μ-loop-unread : given.MeasureT-loop-unread
+μ-loop-unread l = length (l .unread)
