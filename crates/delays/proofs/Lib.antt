@@ -1,0 +1,4 @@
+pub mod TicksLaws
+pub mod RankedLaws
+pub mod TheoryLaws
+pub mod TotalLaws
