@@ -2,6 +2,8 @@
 #[cfg(test)]
 mod bounds_edges;
 #[cfg(test)]
+mod delay_edges;
+#[cfg(test)]
 mod tool_runs;
 #[cfg(test)]
 mod word_edges;

@@ -9,6 +9,6 @@ pub returns : need.returns
 returns c =
     let sums = c .by-places-t .result in
     made-at (c .made .result)
-      (toZ-ofZ w64 (sums .0) (search needs) ∙ c .by-places-t .ensures .first)
-      (toZ-ofZ w64 (sums .1) (search needs) ∙ c .by-places-t .ensures .second)
-      (c .made .ensures)
+    (toZ-ofZ w64 (sums .0) (search needs) ∙ c .by-places-t .ensures .first)
+    (toZ-ofZ w64 (sums .1) (search needs) ∙ c .by-places-t .ensures .second)
+    (c .made .ensures)
