@@ -81,7 +81,8 @@ impl Tool {
         }
     }
 
-    // The next piece of the input, and what is printed for the lines that it ends.
+    // The next piece of the input, and what is printed for the lines that it ends. Where memory fails, nothing is promised of
+    // the tool, which is then of no more use.
     pub fn feed(&mut self, heap: Global, piece: &[u8]) -> Result<String, AllocError>
         ensures { λ r. ⌜ made r (λ x. Follows (now (self .entry)) (now (piece .entry)) (string-bytes x) (now (self .exit))) ⌝ }
     {
