@@ -1,4 +1,6 @@
 // Books of bounds: what a plan reads its bounds from and adds them to.
+#![tactic(auto)]
+
 pub mod book;
 pub mod bulk;
 pub mod fault;

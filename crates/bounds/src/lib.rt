@@ -1,4 +1,6 @@
 // Bounds: two points and a delay, with every number in its range.
+#![tactic(auto)]
+
 pub mod bound;
 pub mod fault;
 pub mod row;

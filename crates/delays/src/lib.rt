@@ -1,4 +1,6 @@
 // Kinds of delay: what every kind proves, the kinds ticks and ranked, and what holds of every kind.
+#![tactic(auto)]
+
 pub mod delay;
 pub mod fault;
 pub mod ranked;

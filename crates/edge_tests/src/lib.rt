@@ -1,4 +1,6 @@
 // Tests at the edges of every crate, apart from the crates so that those are not proved twice.
+#![tactic(auto)]
+
 #[cfg(test)]
 mod book_edges;
 #[cfg(test)]

@@ -1,4 +1,6 @@
 // What every refusal of the library tells: a number, a layer and a place.
+#![tactic(auto)]
+
 ghost use Rattle.std.specs.Prelude.{◌≡◌, Some};
 ghost use Rattle.faults.specs.Faults.{letter_of, fault_text};
 

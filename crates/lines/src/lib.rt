@@ -1,4 +1,6 @@
 // Lines of text as fields, and fields as decimal numbers or hexadecimal words. Nothing here allocates.
+#![tactic(auto)]
+
 pub mod fault;
 pub mod fields;
 pub mod line;

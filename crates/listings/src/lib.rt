@@ -1,4 +1,6 @@
 // Listings of bounds and of house words, line by line: what a line holds, and what the word tool prints for it.
+#![tactic(auto)]
+
 pub mod entry;
 pub mod fault;
 pub mod hex;

@@ -1,5 +1,7 @@
 // Bounds between points over every kind of delay: what walks, chains and earliest times are, when bounds can be met, and checks
 // of times, of chains and of walks.
+#![tactic(auto)]
+
 pub mod chain;
 pub mod edge;
 pub mod link;

@@ -1,4 +1,6 @@
 // House words: three 32-bit words to a bound, and the check of a buffer of them.
+#![tactic(auto)]
+
 pub mod fault;
 mod pack;
 pub mod rows;

@@ -1,4 +1,6 @@
 // `wordtool write`, `wordtool read`, and `wordtool` alone: a listing of bounds to house words, back, and there and back.
+#![tactic(auto)]
+
 use anyhow::anyhow;
 use listings::{Ending, Task, Tool};
 use std::env;
