@@ -1,7 +1,7 @@
 -- What making a bound answers: a row whose numbers are in range makes one, and four numbers have one answer. Assumes nothing.
 use Rattle.std.proofs.Common.{◌≡◌, ℕ, true, ℤ, pos, is_ok, Ok, Err, Result, refl, arith}
 use Rattle.std.proofs.lemmas.Int.{ints}
-use Rattle.bounds.specs.Range.{Point, Sound}
+use Rattle.bounds.specs.Range.{Sound}
 use Rattle.bounds.specs.Making.{Made, Says, FirstOut, row_of}
 use Rattle.bounds.specs.declared.row.Row.{Row}
 use Rattle.bounds.specs.declared.bound.Bound.{Bound}

@@ -1,5 +1,5 @@
 -- The reading of rows of words, and the law of house words. Assumes nothing.
-use Rattle.std.proofs.Common.{◌≡◌, ℕ, zero, suc, ◌+◌, ◌-◌, ◌*◌, ◌%◌, ◌<◌, ◌≤◌, min, List, [], ◌∷◌, ◌++◌, length, get_or, take, drop, Ok, Err, Result, sym, refl, ap, ◌∙◌, subst, inl, inr, append-nil, arith, MatchResult}
+use Rattle.std.proofs.Common.{◌≡◌, ℕ, zero, suc, ◌+◌, ◌-◌, ◌*◌, ◌<◌, ◌≤◌, min, List, [], ◌∷◌, ◌++◌, length, get_or, take, drop, Ok, Err, Result, sym, refl, ap, ◌∙◌, subst, inl, inr, append-nil, arith, MatchResult}
 use Rattle.std.proofs.lemmas.List.{take_rest, take_at, take_all, take-take, length-take, length-append, get_or-append_right, length_push, nil_from_length}
 use Rattle.std.proofs.ByRecursion.{All-push}
 use Rattle.std.proofs.lemmas.Bool.{cases_order}
@@ -12,7 +12,7 @@ use Rattle.bounds.proofs.Makes.{SameBound}
 use Rattle.words.specs.declared.fault.WordFault.{WordFault}
 use Rattle.words.specs.declared.fault.WordFault.TheVariants.{Length, Word}
 use Rattle.words.specs.Words.{row_words, writing}
-use Rattle.words.specs.Reading.{FitsAt, BreaksAt, BoundRead, Holds, Breaks, RowsRead, Checked}
+use Rattle.words.specs.Reading.{FitsAt, BreaksAt, BoundRead, RowsRead, Checked}
 use Rattle.words.specs.Law.{WritingHolds, OneWriting, OneReading, OneAnswer, ReadsBack, AcceptedIsWritten, Law}
 use Rattle.words.proofs.Writings.{writing_push, length-writing, same_row, row_fits, front3}
 

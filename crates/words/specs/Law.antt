@@ -1,5 +1,5 @@
 -- The law of house words: one writing, one reading, one answer, and the way there and back. Assumes nothing.
-use Rattle.std.specs.Prelude.{◌≡◌, ℕ, ◌*◌, ◌<◌, ◌≤◌, List, ◌∷◌, ◌++◌, length, take, Ok, Err, Result, slice_index}
+use Rattle.std.specs.Prelude.{◌≡◌, ℕ, ◌*◌, ◌≤◌, List, ◌∷◌, ◌++◌, length, take, Ok, Result, slice_index}
 use Rattle.std.specs.List.{AllByRecursion as All}
 use Rattle.bounds.specs.declared.row.Row.{Row}
 use Rattle.bounds.specs.Range.{Sound}
