@@ -1,12 +1,9 @@
 -- The row in three words, and the rows in a list of words. Assumes nothing.
-use Rattle.std.proofs.Common.{◌≡◌, ℕ, zero, suc, ◌+◌, ◌-◌, ◌*◌, ◌/◌, ◌%◌, ◌^◌, ◌<◌, ◌≤◌, true, false, List, [], ◌∷◌, ◌++◌, map, length, get_or, ℤ, pos, negsuc, sym, refl, ap, ◌∙◌, subst, add-zero, zero-add, arith, rules}
-use Rattle.std.proofs.lemmas.Int.{ints}
+use Rattle.std.proofs.Common.{◌≡◌, ℕ, zero, suc, ◌+◌, ◌/◌, ◌%◌, ◌^◌, ◌<◌, List, [], ◌∷◌, ◌++◌, get_or, sym, refl, ap, ◌∙◌, add-zero, zero-add, arith, rules}
 use Rattle.std.proofs.lemmas.Bool.{cond_both}
-use Rattle.std.specs.List.{range_with_len}
 use Rattle.bounds.specs.declared.row.Row.{Row}
-use Rattle.bounds.specs.Range.{Part, Sound}
-use Rattle.bounds.proofs.Makes.{row_same}
-use Rattle.words.specs.Words.{head_word, part_word, row_words}
+use Rattle.bounds.specs.Range.{Sound}
+use Rattle.words.specs.Words.{row_words}
 use Rattle.words.specs.Reading.{FitsAt, BreaksAt}
 use Rattle.books.specs.Decoding.{low_part, taken_apart, has_words, row_in, row_at, rows_from}
 use Rattle.books.specs.Sound.{zero_row}

@@ -1,5 +1,5 @@
 -- What adding and cutting make of the rows in lent words, and which rows an accepted buffer holds. Assumes nothing.
-use Rattle.std.proofs.Common.{◌≡◌, ℕ, zero, suc, ◌+◌, ◌-◌, ◌*◌, ◌<◌, ◌≤◌, min, List, [], ◌∷◌, ◌++◌, length, get_or, take, drop, Ok, Err, Result, sym, refl, ap, ◌∙◌, subst, arith}
+use Rattle.std.proofs.Common.{◌≡◌, ℕ, zero, suc, ◌+◌, ◌-◌, ◌*◌, ◌<◌, ◌≤◌, min, List, [], ◌∷◌, ◌++◌, length, get_or, take, Ok, Err, Result, sym, refl, ap, ◌∙◌, subst, arith}
 use Rattle.std.proofs.lemmas.List.{append_assoc, get_or-take, length-take, length-append, get_or_append_left, get_or-append-add}
 use Rattle.std.proofs.lemmas.List.FromFn.{fill_by_all, length-map-range_with_len, map-range_with_len_more, take-map-range_with_len}
 use Rattle.std.proofs.ByRecursion.{All-get_or}
@@ -14,7 +14,7 @@ use Rattle.books.specs.Meaning.{Meaning, with_bounds, cut_to}
 use Rattle.books.specs.Decoding.{row_in, row_at, rows_from}
 use Rattle.books.specs.Lent.{row_places, places_in, fixed_in, added_in, rows_in, Opens, replaced, ended, row_put}
 use Rattle.books.specs.Sound.{zero_row}
-use Rattle.books.proofs.Decodings.{own_row, same_rows, rows_joined}
+use Rattle.books.proofs.Decodings.{own_row, same_rows}
 use Rattle.books.proofs.Meanings.{same_meaning}
 use Rattle.books.proofs.Replaced.{length-replaced, before_replaced, at_replaced, length-ended, before_ended}
 

@@ -5,7 +5,7 @@ use Rattle.bounds.specs.declared.row.Row.{Row}
 use Rattle.bounds.specs.Making.{row_of}
 use Rattle.books.specs.declared.fault.BookFault.{BookFault}
 use Rattle.books.specs.declared.fault.BookFault.TheVariants.{Full}
-use Rattle.books.specs.Calls.{Adding, Cutting, Went, still, adding, cutting, Keeps}
+use Rattle.books.specs.Calls.{Adding, Cutting, still, adding, cutting, Keeps}
 use Rattle.books.specs.Meaning.{Meaning, with_bounds, cut_to}
 use Rattle.books.specs.Layers.{table_of, trial_over, trial_places, BelowSame}
 

@@ -1,5 +1,5 @@
 -- Whatever calls a word book goes through, its words hold its bounds. Assumes nothing.
-use Rattle.std.proofs.Common.{◌≡◌, ℕ, zero, suc, ◌+◌, ◌-◌, ◌*◌, ◌/◌, ◌%◌, ◌<◌, ◌≤◌, Bool, true, false, ◌⊎◌, List, [], ◌∷◌, ◌++◌, length, get_or, take, drop, Ok, Err, Result, sym, refl, ap, ◌∙◌, subst, inl, inr, arith}
+use Rattle.std.proofs.Common.{◌≡◌, ℕ, ◌+◌, ◌-◌, ◌*◌, ◌%◌, ◌<◌, ◌≤◌, Bool, true, false, ◌⊎◌, List, [], ◌∷◌, ◌++◌, length, get_or, take, drop, Ok, Err, Result, sym, refl, ap, ◌∙◌, subst, inl, inr, arith}
 use lib.Seq.{take-append-add}
 use Rattle.std.proofs.lemmas.List.FromFn.{length-map-range_with_len}
 use Rattle.std.proofs.lemmas.List.{append_assoc, append-nil, get_or-drop, get_or_past, get_or-take, length-append, length_push, length-take, length-take-le, take-append-drop, take_at, take-take}
@@ -8,17 +8,17 @@ use Rattle.bounds.specs.declared.bound.Bound.{Bound}
 use Rattle.bounds.specs.declared.row.Row.{Row}
 use Rattle.bounds.specs.Making.{row_of}
 use Rattle.words.specs.Words.{row_words, writing}
-use Rattle.words.specs.Reading.{Holds, Checked}
+use Rattle.words.specs.Reading.{Checked}
 use Rattle.words.proofs.Readings.{law}
 use Rattle.words.proofs.Writings.{length-writing}
 use Rattle.books.specs.declared.fault.BookFault.{BookFault}
 use Rattle.books.specs.declared.fault.BookFault.TheVariants.{Full}
 use Rattle.books.specs.declared.lent.WordBook.{WordBook}
 use Rattle.books.specs.Calls.{Adding, Cutting, Went, still, adding, cutting}
-use Rattle.books.specs.Decoding.{row_at, rows_from}
+use Rattle.books.specs.Decoding.{row_at}
 use Rattle.books.specs.Held.{meaning_of, places_of, fixed_of, added_of, count_of, RowAdded, RowsCut, Written, StaysWritten}
 use Rattle.books.specs.Lent.{Opens, Opened, row_places, replaced, ended}
-use Rattle.books.specs.Meaning.{Meaning, bounds_of, with_bounds, cut_to}
+use Rattle.books.specs.Meaning.{bounds_of, with_bounds, cut_to}
 use Rattle.books.specs.WordLaws.{words_proper}
 use Rattle.books.proofs.Replaced.{length-replaced, take-replaced, drop-replaced, length-ended, take_ended, drop-ended, zero_ended}
 

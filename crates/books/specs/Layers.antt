@@ -1,5 +1,5 @@
 -- What the books with rows of their own mean: a table, and a trial over the book below it. Assumes nothing.
-use Rattle.std.specs.Prelude.{◌≡◌, ℕ, ◌-◌, min, List, [], ◌++◌, length, take}
+use Rattle.std.specs.Prelude.{◌≡◌, ℕ, ◌-◌, min, List, [], length, take}
 use Rattle.bounds.specs.declared.row.Row.{Row}
 use Rattle.books.specs.Meaning.{Meaning, bounds_of}
 

@@ -10,7 +10,7 @@ use bounds::Bound;
 // Adds the bounds in their order, all of them or none: it is refused exactly when fewer places are free than there are bounds,
 // and then nothing changes.
 pub fn add_all<B: Book>(book: &mut B, bounds: &[Bound]) -> Result<(), BookFault>
-    ensures { AddingAll meaning adds book.old (map row_of bounds.now) book.new result }
+    ensures { AddingAll B.meaning B.adds book.old (map row_of bounds.now) book.new result }
 {
     if book.free_count() < bounds.len() {
         return Err(BookFault::Full);

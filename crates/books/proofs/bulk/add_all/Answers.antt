@@ -4,22 +4,22 @@ use Rattle.bounds.specs.Making.{row_of}
 use Rattle.books.proofs.Bulks.{added_none, added_more, never_full, added_all}
 use Rattle.books.proofs.bulk.add_all.Goals as goal
 
-pub returns-then-free-count-bounds : goal.returns-then-free-count-bounds
-returns-then-free-count-bounds g c = (omega (arith, length-map c.args.bounds.now row_of), refl)
+pub returns-then-free_count-bounds : goal.returns-then-free_count-bounds
+returns-then-free_count-bounds g c = (omega (arith, length-map c.args.bounds.now row_of), refl)
 
 pub loop-bound-init : goal.loop-bound-init
 loop-bound-init g c = added_none _ _ _ _ (omega arith)
 
 pub loop-bound-preserved : goal.loop-bound-preserved
 loop-bound-preserved g c =
-    let added = c.in-ok-add.ensures in
+    let added = c.in_ok-add.ensures in
     added_more g.B.Book.meaning g.B.Book.adds c.args.book.now c.args.bounds.now c.loop-bound.bound-index c.loop-bound.book c.add.new.self
     c.bound-item.result c.loop-bound-test.true c.bound-item.is c.loop-bound.invariant added.1 added.2
 
-pub returns-in-err-add : goal.returns-in-err-add
-returns-in-err-add g c =
+pub returns-in_err-add : goal.returns-in_err-add
+returns-in_err-add g c =
     absurd (never_full g.B.Book.meaning g.B.Book.adds c.args.book.now c.args.bounds.now c.loop-bound.bound-index c.loop-bound.book
-    c.add.new.self (row_of c.bound-item.result) c.in-err-add.field-0.0 c.loop-bound-test.true c.loop-bound.invariant c.in-err-add.ensures)
+    c.add.new.self (row_of c.bound-item.result) c.in_err-add.field-0.0 c.loop-bound-test.true c.loop-bound.invariant c.in_err-add.ensures)
 
 pub returns : goal.returns
 returns g c =

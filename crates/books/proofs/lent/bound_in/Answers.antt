@@ -12,4 +12,4 @@ refused head t s (Length n) never = absurd never
 refused head t s (Word k) breaks = broken_row head t s k breaks
 
 pub returns-in-Err : goal.returns-in-Err
-returns-in-Err c = c.sound-bound.ensures ∙ sym (refused c.args.head c.args.t c.args.s _ c.in-Err.ensures)
+returns-in-Err c = c.sound_bound.ensures ∙ sym (refused c.args.head c.args.t c.args.s _ c.in-Err.ensures)

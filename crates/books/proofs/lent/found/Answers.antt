@@ -6,7 +6,7 @@ pub returns-in-Ok : goal.returns-in-Ok
 returns-in-Ok c =
     let ws = c.args.words.now in
     let checked = c.in-Ok.ensures in
-    λ answer other. opens_once ws (Ok c.in-Ok.rows) answer _ checked (opens_rows ws _ _ checked c.rows-within.ensures) other
+    λ answer other. opens_once ws (Ok c.in-Ok.rows) answer _ checked (opens_rows ws _ _ checked c.rows_within.ensures) other
 
 pub returns-in-Err : goal.returns-in-Err
 returns-in-Err c =

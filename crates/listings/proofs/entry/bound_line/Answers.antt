@@ -4,13 +4,13 @@ use Rattle.std.proofs.lemmas.Int.{to_z-of_z}
 use Rattle.listings.proofs.Entries.{bound_refused}
 use Rattle.listings.proofs.entry.bound_line.Goals as goal
 
-pub returns-in-err-numbers : goal.returns-in-err-numbers
-returns-in-err-numbers c = let p = err_from_is_err_and c.from-residual.result c.from-residual.ensures.1 in rw (p.1, p.2) c.in-err-numbers.ensures.reads
+pub returns-in_err-numbers : goal.returns-in_err-numbers
+returns-in_err-numbers c = let p = err_from_is_err_and c.from-residual.result c.from-residual.ensures.1 in rw (p.1, p.2) c.in_err-numbers.ensures.reads
 
-pub returns-in-err-bound : goal.returns-in-err-bound
-returns-in-err-bound c =
-    let p = err_from_is_err_and c.from-residual-in-err-bound.result c.from-residual-in-err-bound.ensures.1 in
-    let f = c.in-ok-numbers.numbers in
+pub returns-in_err-bound : goal.returns-in_err-bound
+returns-in_err-bound c =
+    let p = err_from_is_err_and c.from-residual-in_err-bound.result c.from-residual-in_err-bound.ensures.1 in
+    let f = c.in_ok-numbers.numbers in
     rw (p.1, p.2) (bound_refused c.args.line.now f _ _ _ _ _
     (to_z-of_z w64 f.left (search rules)) (to_z-of_z w64 f.right (search rules)) (to_z-of_z w64 f.t (search rules)) (to_z-of_z w64 f.s (search rules))
-    c.in-ok-numbers.ensures.reads c.in-err-bound.ensures)
+    c.in_ok-numbers.ensures.reads c.in_err-bound.ensures)

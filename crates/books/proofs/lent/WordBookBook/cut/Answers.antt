@@ -6,8 +6,8 @@ use Rattle.books.specs.Lent.{ended}
 use Rattle.books.proofs.Lents.{cut_meaning}
 use Rattle.books.proofs.lent.WordBookBook.cut.Goals as goal
 
-pub returns-then-k-added-held : goal.returns-then-k-added-held
-returns-then-k-added-held c =
+pub returns-then-k-added_held : goal.returns-then-k-added_held
+returns-then-k-added_held c =
     let w = c.args.self.now in
     (omega (arith, length-map-range_with_len (row_at w.words.now) (fixed_of w) (added_of w)), refl)
 
@@ -16,10 +16,10 @@ returns c =
     let w = c.args.self.now in
     let ws = w.words.now in
     let k = c.args.k in
-    let made : c.put-end.new.words ≡ ended (places_of w) ws (fixed_of w + k)
-    = c.put-end.ensures ∙ ap (λ p. ended p ws (c.fixed-held.result + k)) c.places-held-places.ensures
-    ∙ ap (λ f. ended (places_of w) ws (f + k)) c.fixed-held.ensures in (
+    let made : c.put_end.new.words ≡ ended (places_of w) ws (fixed_of w + k)
+    = c.put_end.ensures ∙ ap (λ p. ended p ws (c.fixed_held.result + k)) c.places_held-places.ensures
+    ∙ ap (λ f. ended (places_of w) ws (f + k)) c.fixed_held.ensures in (
       omega (arith, length-map-range_with_len (row_at ws) (fixed_of w) (added_of w)),
-      cut_meaning ws c.put-end.new.words w.places w.fixed w.added k (omega arith) made,
+      cut_meaning ws c.put_end.new.words w.places w.fixed w.added k (omega arith) made,
       (refl, made),
     )

@@ -4,12 +4,13 @@ use Rattle.books.specs.Listed.{listed}
 use Rattle.books.proofs.Lists.{set_sound}
 use Rattle.books.proofs.rows.Rows.push.Goals as goal
 
-pub invariant-of-self : goal.invariant-of-self
-invariant-of-self g c =
-    let s = c.args.self.now in (
-      length-set _ _ _ ∙ s.long,
-      (omega (arith, simp length-take at c.requires), (set_sound s.cells _ _ s.sound c.row.ensures.range, tt)),
-    )
+pub invariant_of-self : goal.invariant_of-self
+invariant_of-self g c =
+    let s = c.args.self.now in record {
+      long = length-set _ _ _ ∙ s.long;
+      within = omega (arith, simp length-take at c.requires);
+      sound = set_sound s.cells _ _ s.sound c.row.ensures.range;
+    }
 
 pub returns : goal.returns
 returns g c =

@@ -10,7 +10,7 @@ returns-then-i-self g c =
     let s = c.args.self.now in
     let here = c.if-i-self.true in
     let inside : c.args.i < length (listed s) = simp length-take (omega arith) in
-    ap Some (c.sound-bound.ensures ∙ sym (get_or-take _ s.cells _ zero_row here)) ∙ sym (slice_get-get_or _ _ zero_row inside)
+    ap Some (c.sound_bound.ensures ∙ sym (get_or-take _ s.cells _ zero_row here)) ∙ sym (slice_get-get_or _ _ zero_row inside)
 
 pub returns-else-i-self : goal.returns-else-i-self
 returns-else-i-self g c =

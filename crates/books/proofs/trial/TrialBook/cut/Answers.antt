@@ -5,7 +5,7 @@ use Rattle.books.proofs.Meanings.{trial_cut}
 use Rattle.books.proofs.trial.TrialBook.cut.Goals as goal
 
 pub cut-requires : goal.cut-requires
-cut-requires g c = (lit< tt, omega (arith, rw length-take at c.added-count.ensures))
+cut-requires g c = (lit< tt, omega (arith, rw length-take at c.added_count.ensures))
 
 pub returns : goal.returns
 returns g c =

@@ -1,4 +1,4 @@
-use Rattle.std.proofs.Common.{◌-◌, length, take, sym, ◌∙◌, arith}
+use Rattle.std.proofs.Common.{◌-◌, take, sym, ◌∙◌, arith}
 use Rattle.std.proofs.lemmas.List.{length-take}
 use Rattle.std.proofs.lemmas.Option.{slice_get_past}
 use Rattle.books.specs.Layers.{trial_places}
@@ -18,7 +18,7 @@ returns-then-i-below-2 g c =
     let own = listed c.args.self.now.own in
     let j = c.args.i - c.count-below.result in
     c.read-then-i-below-2.ensures
-    ∙ sym (nth-take (trial_places m) own j (omega (arith, rw length-take at c.added-count.ensures)))
+    ∙ sym (nth-take (trial_places m) own j (omega (arith, rw length-take at c.added_count.ensures)))
     ∙ sym (nth_back (bounds_of m) _ c.args.i j (omega arith) (omega arith))
 
 pub returns-else-i-below-2 : goal.returns-else-i-below-2

@@ -11,9 +11,9 @@ loop-b-init c = follows_none c.args.self.now _ c.new-out.ensures.bytes
 pub loop-b-preserved : goal.loop-b-preserved
 loop-b-preserved c =
     let out = string_bytes c.loop-b.out in
-    let more = pushed c.as-str.result.now refl c.in-ok-push-str.was c.push-str.ensures.bytes ∙ ap (λ x. out ++ x) c.as-str.ensures.value in
+    let more = pushed c.as_str.result.now refl c.in_ok-push_str.was c.push_str.ensures.bytes ∙ ap (λ x. out ++ x) c.as_str.ensures.value in
     follows_push c.args.self.now c.loop-b.self c.step.new.self c.args.piece.now c.loop-b.b-index out _ _ c.loop-b-test.true
-    c.loop-b.invariant c.in-ok-text.ensures more
+    c.loop-b.invariant c.in_ok-text.ensures more
 
 pub returns : goal.returns
 returns c =

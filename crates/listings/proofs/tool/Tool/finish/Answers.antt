@@ -5,7 +5,7 @@ use Rattle.listings.proofs.tool.Tool.finish.Goals as goal
 
 pub returns : goal.returns
 returns c =
-    let last = string_bytes c.in-ok-text.text in
-    let printed = pushed c.as-str.result.now refl c.in-ok-push-str.was c.push-str.ensures.bytes
-    ∙ ap (λ x. last ++ x) (c.as-str.ensures.value ∙ c.in-ok-summary.ensures) in
-    ends c.args.self c.last-line.new.self last _ c.last-line.ensures.task c.in-ok-text.ensures.empty c.in-ok-text.ensures.tells printed
+    let last = string_bytes c.in_ok-text.text in
+    let printed = pushed c.as_str.result.now refl c.in_ok-push_str.was c.push_str.ensures.bytes
+    ∙ ap (λ x. last ++ x) (c.as_str.ensures.value ∙ c.in_ok-summary.ensures) in
+    ends c.args.self c.last_line.new.self last _ c.last_line.ensures.task c.in_ok-text.ensures.empty c.in_ok-text.ensures.tells printed
