@@ -68,7 +68,7 @@ mod tests {
         }
         assert_eq!(rt;
             line.bytes(),
-            b"0123456789:;<=>?@ABCDEFGHIJKLMNOPQRSTUVWXYZ[\\]^_"
+            b"0123456789:;<=>?@ABCDEFGHIJKLMNOPQRSTUVWXYZ[\\]^_".as_slice()
         );
         line.clear();
         assert!(rt; line.is_empty());

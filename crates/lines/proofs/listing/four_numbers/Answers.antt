@@ -7,5 +7,5 @@ use Rattle.lines.proofs.listing.four_numbers.Goals as goal
 
 pub returns : goal.returns
 returns c =
-    let reads = ap (readings number 1 4) (sym c.new-fields.ensures) ∙ c.last-four-numbers.ensures in
+    let reads = ap (readings number 1 4) (sym c.new-fields.ensures) ∙ c.last_four_numbers.ensures in
     record { reads = reads; front = λ whole e. decided number 11 number_long 4 1 48 c.args.line.now whole _ (lit≤ tt) e reads }

@@ -8,14 +8,14 @@ use Rattle.lines.proofs.number.digits_in.Goals as goal
 pub loop-b-init : goal.loop-b-init
 loop-b-init c = (refl, omega (arith, pow-zero c.args.base))
 
-pub returns-in-default : goal.returns-in-default
-returns-in-default c =
+pub returns-in_default : goal.returns-in_default
+returns-in_default c =
     let base = c.args.base in
     let n = c.loop-b.n in
     let i = c.loop-b.b-index in
     let text = c.args.text.now in
     record {
-      value = sym (sym c.loop-b.invariant.0 ∙ digit_next base n i text _ c.loop-b-test.true (sym c.in-default.is ∙ c.digit-in.ensures.value));
+      value = sym (sym c.loop-b.invariant.0 ∙ digit_next base n i text _ c.loop-b-test.true (sym c.in_default.is ∙ c.digit_in.ensures.value));
       bound = tt;
     }
 
@@ -27,11 +27,11 @@ larger c = digit_fits c.args.base c.loop-b.n c.in-Some.d c.loop-b.b-index c.loop
 small : (c : goal.In-Some) → c.loop-b.n * c.args.base + c.in-Some.d < 2 ^ 40
 small c = few_digits c.args.base _ (c.loop-b.b-index + 1) c.requires.small (omega arith) (larger c)
 
-pub overflow-mul-n : goal.overflow-mul-n
-overflow-mul-n c = omega (arith, small c)
+pub overflow_mul-n : goal.overflow_mul-n
+overflow_mul-n c = omega (arith, small c)
 
-pub overflow-add-n : goal.overflow-add-n
-overflow-add-n c = omega (arith, small c)
+pub overflow_add-n : goal.overflow_add-n
+overflow_add-n c = omega (arith, small c)
 
 pub loop-b-preserved : goal.loop-b-preserved
 loop-b-preserved c =
@@ -39,7 +39,7 @@ loop-b-preserved c =
     let n = c.loop-b.n in
     let i = c.loop-b.b-index in
     let text = c.args.text.now in (
-      sym (digit_next base n i text _ c.loop-b-test.true (sym c.in-Some.is ∙ c.digit-in.ensures.value)) ∙ c.loop-b.invariant.0,
+      sym (digit_next base n i text _ c.loop-b-test.true (sym c.in-Some.is ∙ c.digit_in.ensures.value)) ∙ c.loop-b.invariant.0,
       larger c,
     )
 

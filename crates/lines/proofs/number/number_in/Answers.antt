@@ -10,8 +10,8 @@ returns-in-Some c =
     let small = c.in-Some.ensures.bound in
     let same : to_z w64 (of_z w64 (pos 0 -ℤ to_z w64 n)) ≡ neg_ℤ (pos n) = omega (arith, ints) in
     ap (λ z. Some z) same
-    ∙ sym (number_minus c.args.field.now (search rules) (search rules) ∙ ap negative (sym c.natural-in.ensures.value ∙ c.in-Some.is))
+    ∙ sym (number_minus c.args.field.now (search rules) (search rules) ∙ ap negative (sym c.natural_in.ensures.value ∙ c.in-Some.is))
 
 pub returns-in-None : goal.returns-in-None
 returns-in-None c =
-    sym (number_minus c.args.field.now (search rules) (search rules) ∙ ap negative (sym c.natural-in.ensures.value ∙ c.in-None.is))
+    sym (number_minus c.args.field.now (search rules) (search rules) ∙ ap negative (sym c.natural_in.ensures.value ∙ c.in-None.is))

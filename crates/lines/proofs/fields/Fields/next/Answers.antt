@@ -8,10 +8,10 @@ use Rattle.lines.proofs.fields.Fields.next.Goals.{in-empty, in-len1-up}
 pub returns : goal.returns
 returns c =
     let line = c.in-Some.rest.now in
-    let field = c.split-at.result.0.now in
-    let tail = c.split-at.result.1.now in
-    let cut = c.split-at.ensures.by_index.0 in
-    let solid : Solid field = λ k l e. c.field-len.ensures.before k (omega arith) (sym (c.split-at.ensures.by_index.1 k 0 (omega arith)) ∙ e) in
+    let field = c.split_at.result.0.now in
+    let tail = c.split_at.result.1.now in
+    let cut = c.split_at.ensures.by_index.0 in
+    let solid : Solid field = λ k l e. c.field_len.ensures.before k (omega arith) (sym (c.split_at.ensures.by_index.1 k 0 (omega arith)) ∙ e) in
     let start = ap left_in c.in-Some.is in
     elim c.if-tail-lt1.branch [
       | in-empty w ↦
