@@ -3,7 +3,7 @@ use Rattle.std.specs.Prelude.{ℕ, ◌≤◌, List, length}
 use Rattle.std.proofs.Common.{arith}
 use Rattle.std.proofs.lemmas.List.{length-append, length-take}
 use Rattle.std.proofs.ByRecursion.{All-append, All-take, All-from_get_or}
-use Rattle.std.specs.List.{AllByRecursion as All}
+use Rattle.std.specs.List.{AllByRecursion}
 use Rattle.bounds.specs.declared.row.Row.{Row}
 use Rattle.bounds.specs.Range.{Sound}
 use Rattle.books.specs.declared.rows.Rows.{Rows}
@@ -12,10 +12,10 @@ use Rattle.books.specs.Layers.{table_of, trial_places, trial_over}
 use Rattle.books.specs.Listed.{listed}
 use Rattle.books.specs.Sound.{zero_row, SoundRows}
 
-sound_all : (rows : List Row) → SoundRows rows → All Sound rows
+sound_all : (rows : List Row) → SoundRows rows → AllByRecursion Sound rows
 sound_all rows h = All-from_get_or Sound rows zero_row (λ i l. h i)
 
-pub listed_sound : {N : ℕ} (r : Rows N) → All Sound (listed r)
+pub listed_sound : {N : ℕ} (r : Rows N) → AllByRecursion Sound (listed r)
 listed_sound r = All-take Sound r.len r.cells (sound_all r.cells r.sound)
 
 pub listed_few : {N : ℕ} (r : Rows N) → length (listed r) ≤ N

@@ -6,7 +6,7 @@ use Rattle.std.proofs.ByRecursion.{All-append, All-map}
 use Rattle.std.proofs.lemmas.List.FromFn.{length-map-range_with_len}
 use Rattle.std.proofs.lemmas.Int.{ints}
 use Rattle.std.proofs.lemmas.Bool.{and_parts, cond_both, eqb-true, leb-true}
-use Rattle.std.specs.List.{range_with_len, AllByRecursion as All}
+use Rattle.std.specs.List.{range_with_len, AllByRecursion}
 use Rattle.bounds.specs.declared.row.Row.{Row}
 use Rattle.bounds.specs.Range.{Part, Sound}
 use Rattle.words.specs.Words.{head_word, part_word}
@@ -52,10 +52,10 @@ row_sound head t s =
     (λ e. let had = words_had r head t s e in (omega arith, omega arith, had.t_part, had.s_part))
     (λ e. zero_sound)
 
-rows_sound : (ws : List ℕ) (a n : ℕ) → All Sound (rows_from ws a n)
+rows_sound : (ws : List ℕ) (a n : ℕ) → AllByRecursion Sound (rows_from ws a n)
 rows_sound ws a n = All-map Sound (row_at ws) (range_with_len a n) (each (range_with_len a n))
   where
-    each : (is : List ℕ) → All (λ i. Sound (row_at ws i)) is
+    each : (is : List ℕ) → AllByRecursion (λ i. Sound (row_at ws i)) is
     each [] = tt
     each (i ∷ is) = (row_sound (slice_index ws (3 * i)) (slice_index ws (3 * i + 1)) (slice_index ws (3 * i + 2)), each is)
 

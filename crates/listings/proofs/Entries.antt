@@ -8,10 +8,9 @@ use Rattle.lines.specs.declared.listing.Figures.{Figures}
 use Rattle.lines.specs.Fields.{fields}
 use Rattle.lines.specs.Listing.{FourNumbers, ThreeWords}
 use Rattle.words.specs.declared.fault.WordFault.{WordFault}
-use Rattle.words.specs.Words.{row_words}
 use Rattle.words.specs.Reading.{BoundRead}
 use Rattle.words.proofs.Writings.{front3}
-use Rattle.listings.specs.declared.fault.ListingFault.TheVariants.{Line, Bound, Word}
+use Rattle.listings.specs.declared.fault.ListingFault.TheVariants.{Bound, Word}
 use Rattle.listings.specs.Lines.{BoundLine, WordsLine}
 
 -- four numbers that are read, of which one is out of range; the code passes each number on at its width

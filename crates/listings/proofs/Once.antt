@@ -1,6 +1,6 @@
 -- An input has one printing: each line tells one text and one count, and the line feeds cut the input in one way. Assumes nothing.
 use Rattle.std.proofs.Common.{◌≡◌, ℕ, ◌⊎◌, List, [], ◌∷◌, ◌++◌, get_or, ℤ, Ok, Err, Result, sym, refl, ap, ◌∙◌, subst, inl, inr, append_assoc, arith}
-use Rattle.std.specs.List.{AllByRecursion as All}
+use Rattle.std.specs.List.{AllByRecursion}
 use Rattle.bounds.specs.declared.bound.Bound.{Bound as BoundT}
 use Rattle.bounds.specs.declared.fault.BoundFault.{BoundFault}
 use Rattle.bounds.specs.Making.{Made, row_of}
@@ -181,7 +181,7 @@ opens line lines x = append_assoc (line ++ (10 ∷ [])) (ended lines) x ∙ appe
 
 -- The line feeds cut bytes into lines and a part of one in one way: the first line ends at the first line feed, and so
 -- do the others in what comes after it.
-ended_once : (ls ms : List (List ℕ)) (x y : List ℕ) → All OneLine ls → All OneLine ms → OneLine x → OneLine y → ended ls ++ x ≡ ended ms ++ y → (ls ≡ ms) × (x ≡ y)
+ended_once : (ls ms : List (List ℕ)) (x y : List ℕ) → AllByRecursion OneLine ls → AllByRecursion OneLine ms → OneLine x → OneLine y → ended ls ++ x ≡ ended ms ++ y → (ls ≡ ms) × (x ≡ y)
 ended_once [] [] x y p q i j e = (refl, e)
 ended_once [] (m ∷ ms) x y p q i j e = absurd (no_feed m (ended ms ++ y) x i (sym (e ∙ opens m ms y)))
 ended_once (l ∷ ls) [] x y p q i j e = absurd (no_feed l (ended ls ++ x) y j (sym (opens l ls x) ∙ e))

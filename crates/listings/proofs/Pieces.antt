@@ -20,7 +20,7 @@ use Rattle.listings.specs.Lines.{BoundLine, WordsLine, LineOf, EntryOf}
 use Rattle.listings.specs.Printing.{text_of_summary}
 use Rattle.listings.specs.Counts.{none_yet}
 use Rattle.listings.specs.Sessions.{OneLine, ended, Tells, Answered, Session, Closes}
-use Rattle.listings.specs.Tools.{HasRead, Follows, EndsWith, PiecesJoin, WholePrints}
+use Rattle.listings.specs.Tools.{Follows, EndsWith, PiecesJoin, WholePrints}
 
 -- the first 48 bytes of a line decide what it holds
 module _ (whole : List ℕ) where

@@ -1,5 +1,5 @@
 -- The text that is printed, from the pieces that it is made of. Assumes nothing.
-use Rattle.std.proofs.Common.{◌≡◌, ℕ, List, [], ◌∷◌, ◌++◌, get_or, codes, decimal, sym, refl, ap, ◌∙◌}
+use Rattle.std.proofs.Common.{◌≡◌, ℕ, List, ◌++◌, get_or, codes, decimal, sym, ap, ◌∙◌}
 use Rattle.faults.specs.declared.Fault.{Fault}
 use Rattle.faults.specs.Faults.{fault_text}
 use Rattle.bounds.specs.declared.row.Row.{Row}
@@ -11,7 +11,7 @@ use Rattle.listings.specs.declared.task.Task.{Task}
 use Rattle.listings.specs.declared.task.Task.TheVariants.{Write, Read, RoundTrip}
 use Rattle.listings.specs.Faults.{fault_of, reason_of}
 use Rattle.listings.specs.Text.{hex_text}
-use Rattle.listings.specs.Printing.{line_feed, words_then, text_of_bound, text_of_refusal, done_of, verdict_of, text_of_summary}
+use Rattle.listings.specs.Printing.{line_feed, text_of_bound, text_of_refusal, done_of, verdict_of, text_of_summary}
 
 -- three words that are a row's, and the rest of the line
 hexes : List ℕ → List ℕ → List ℕ

@@ -3,7 +3,7 @@ use Rattle.std.proofs.Common.{◌≡◌, ℕ, zero, suc, ◌+◌, ◌-◌, ◌*�
 use Rattle.std.proofs.lemmas.List.{take_rest, take_at, take_all, take-take, length-take, length-append, get_or-append_right, length_push, nil_from_length}
 use Rattle.std.proofs.ByRecursion.{All-push}
 use Rattle.std.proofs.lemmas.Bool.{cases_order}
-use Rattle.std.specs.List.{AllByRecursion as All}
+use Rattle.std.specs.List.{AllByRecursion}
 use Rattle.bounds.specs.declared.bound.Bound.{Bound}
 use Rattle.bounds.specs.declared.row.Row.{Row}
 use Rattle.bounds.specs.Making.{row_of}
@@ -19,7 +19,7 @@ use Rattle.words.proofs.Writings.{writing_push, length-writing, same_row, row_fi
 -- the words ws begin with those of n rows, and rest is left
 pub record Passed (ws : List ℕ) (n : ℕ) (rest : List ℕ) : Type 0 where
   pub rows : List Row
-  pub sound : All Sound rows
+  pub sound : AllByRecursion Sound rows
   pub many : length rows ≡ n
   pub cut : ws ≡ writing rows ++ rest
 
@@ -71,7 +71,7 @@ passed_broken ws n rest k p three begins (small, fit, bad) =
     first3 rest (suc (suc (suc j))) h = absurd (let e : ⊥ = omega arith in e)
 
 -- two readings of the same words go row by row: a row here is a row there, since three words are one row's at most
-one_reading : (rows others : List Row) (a b : List ℕ) → All Sound rows → All Sound others → get_or a 0 0 ≡ 0 → get_or b 0 0 ≡ 0
+one_reading : (rows others : List Row) (a b : List ℕ) → AllByRecursion Sound rows → AllByRecursion Sound others → get_or a 0 0 ≡ 0 → get_or b 0 0 ≡ 0
     → writing rows ++ a ≡ writing others ++ b → rows ≡ others
 one_reading [] [] a b i j p q h = refl
 one_reading [] (x ∷ others) a b i j p q h = absurd (let z = ap (λ ws. get_or ws 0 0) h in let k : ⊥ = omega arith in k)
@@ -85,7 +85,7 @@ reads_once : OneReading
 reads_once rows others ws h g = one_reading rows others h.after g.after h.sound g.sound h.ends g.ends (sym h.cut ∙ g.cut)
 
 -- rows and then a broken one are no rows and then an end
-no_break : (rows others : List Row) (a rest : List ℕ) (k : ℕ) → All Sound rows → All Sound others → get_or a 0 0 ≡ 0
+no_break : (rows others : List Row) (a rest : List ℕ) (k : ℕ) → AllByRecursion Sound rows → AllByRecursion Sound others → get_or a 0 0 ≡ 0
     → writing rows ++ a ≡ writing others ++ rest → (get_or rest 0 0 ≡ 0 → ⊥) → BreaksAt rest k → ⊥
 no_break [] [] a rest k i j z h begins br = begins (ap (λ ws. get_or ws 0 0) (sym h) ∙ z)
 no_break [] (x ∷ others) a rest k i j z h begins br = let y = ap (λ ws. get_or ws 0 0) h in omega arith
@@ -116,7 +116,7 @@ bound_read_once h t s (Err (Word j)) (Ok d) p q = own_whole h t s d j q p
 bound_read_once h t s (Err (Word j)) (Err (Length n)) p never = absurd never
 bound_read_once h t s (Err (Word j)) (Err (Word k)) p q = ap (λ n. Word n) (same_break (h ∷ (t ∷ (s ∷ []))) j k p q)
 
-one_fault : (rows others : List Row) (a b : List ℕ) (j k : ℕ) → All Sound rows → All Sound others → writing rows ++ a ≡ writing others ++ b
+one_fault : (rows others : List Row) (a b : List ℕ) (j k : ℕ) → AllByRecursion Sound rows → AllByRecursion Sound others → writing rows ++ a ≡ writing others ++ b
     → BreaksAt a j → BreaksAt b k → 3 * length rows + j ≡ 3 * length others + k
 one_fault [] [] a b j k i i' h p q = ap (λ n. 0 + n) (same_break b j k (subst (λ ws. BreaksAt ws j) h p) q)
 one_fault [] (x ∷ others) a b j k i (x_in, i') h p q =

@@ -1,7 +1,7 @@
 -- What words mean: the rows that they hold, or the first word that breaks its row. A reading is told by the writing
 -- alone, so there is no second definition of how a word is taken apart. Assumes nothing.
 use Rattle.std.specs.Prelude.{◌≡◌, ℕ, zero, suc, ◌+◌, ◌*◌, ◌%◌, ◌<◌, ◌≤◌, List, [], ◌∷◌, ◌++◌, length, take, ℤ, Ok, Err, Result, ◌≢◌, slice_index, slice_index_or}
-use Rattle.std.specs.List.{AllByRecursion as All}
+use Rattle.std.specs.List.{AllByRecursion}
 use Rattle.bounds.specs.declared.bound.Bound.{Bound}
 use Rattle.bounds.specs.declared.row.Row.{Row}
 use Rattle.bounds.specs.Making.{row_of}
@@ -41,7 +41,7 @@ BoundRead head t s (Err (Word k)) = RowRead head t s (Err k)
 
 -- the words hold just these rows: they begin with the rows' writing, and then comes no word or a zero head
 pub record Holds (rows : List Row) (ws : List ℕ) : Type 0 where
-  pub sound : All Sound rows
+  pub sound : AllByRecursion Sound rows
   pub after : List ℕ
   pub cut : ws ≡ writing rows ++ after
   pub ends : slice_index_or after 0 0 ≡ 0
@@ -49,7 +49,7 @@ pub record Holds (rows : List Row) (ws : List ℕ) : Type 0 where
 -- after some rows comes one that does not end them, and the word at place p is the first that breaks it
 pub record Breaks (ws : List ℕ) (p : ℕ) : Type 0 where
   pub before : List Row
-  pub sound : All Sound before
+  pub sound : AllByRecursion Sound before
   pub after : List ℕ
   pub cut : ws ≡ writing before ++ after
   pub begins : slice_index_or after 0 0 ≡ 0 → ⊥

@@ -4,11 +4,11 @@ use Rattle.listings.proofs.Entries.{words_refused, words_read}
 use Rattle.listings.proofs.entry.words_line.Goals as goal
 
 pub returns-in_err-words : goal.returns-in_err-words
-returns-in_err-words c = let p = err_from_is_err_and c.from-residual.result c.from-residual.ensures.1 in rw (p.1, p.2) c.in_err-words.ensures.reads
+returns-in_err-words c = let p = err_from_is_err_and c.from_residual.result c.from_residual.ensures.1 in rw (p.1, p.2) c.in_err-words.ensures.reads
 
 pub returns-in_err-bound : goal.returns-in_err-bound
 returns-in_err-bound c =
-    let p = err_from_is_err_and c.from-residual-in_err-bound.result c.from-residual-in_err-bound.ensures.1 in
+    let p = err_from_is_err_and c.from_residual-in_err-bound.result c.from_residual-in_err-bound.ensures.1 in
     let long : length c.in_ok-words.words ≡ 3 = search rules in
     rw (p.1, p.2) (words_refused c.args.line.now c.in_ok-words.words _ long c.in_ok-words.ensures.reads c.in_err-bound.ensures)
 
