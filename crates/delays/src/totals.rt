@@ -1,6 +1,5 @@
 // What holds of every kind.
-ghost use Rattle.std.specs.Prelude.{◌≡◌, ◌≤◌, true, length, is_some};
-ghost use Rattle.std.specs.List.{AllByRecursion as All};
+ghost use Rattle.std.specs.Prelude.{◌≡◌, ◌≤◌, true, length, All, is_some};
 ghost use Rattle.delays.specs.Faults.{PairRead};
 ghost use Rattle.delays.specs.Theory.{Theory};
 ghost use Rattle.delays.specs.Totals.{Summed};
