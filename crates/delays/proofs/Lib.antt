@@ -1,3 +1,2 @@
-pub mod RankedLaws
 pub mod TheoryLaws
 pub mod TotalLaws

@@ -1,6 +1,6 @@
 -- What follows from the laws of a kind: those of an ordered group. Assumes nothing.
-use Rattle.std.proofs.Common.{◌≡◌, true, sym, refl, ap, ◌∙◌, subst}
-use Rattle.delays.specs.Kind.{Kind, Exact, Lawful, Within, Parts}
+use Rattle.std.proofs.Common.{◌≡◌, true, sym, ap, ◌∙◌, subst}
+use Rattle.delays.specs.Kind.{Kind, Exact, Lawful}
 use Rattle.delays.specs.Theory.{Theory}
 
 module _ {k : Kind} (laws : Lawful k) where

@@ -1,7 +1,7 @@
 -- What the laws of a kind give of a row of its values. Assumes nothing.
-use Rattle.std.proofs.Common.{◌≡◌, ℕ, ◌+◌, ◌*◌, ◌<◌, ◌≤◌, true, List, [], ◌∷◌, ◌++◌, map, length, get_or, take, sym, ap, ◌∙◌, subst, inl, inr, mul-le-mul_right, suc-mul, arith, length-take}
-use Rattle.std.specs.List.{AllByRecursion as All}
-use Rattle.std.proofs.ByRecursion.{All-take}
+use Rattle.std.proofs.Common.{◌≡◌, ℕ, ◌+◌, ◌*◌, ◌<◌, ◌≤◌, List, [], ◌∷◌, ◌++◌, map, length, get_or, take, sym, ap, ◌∙◌, subst, inl, inr, mul-le-mul_right, suc-mul, arith, length-take}
+use Rattle.std.specs.List.{All}
+use Rattle.std.proofs.lemmas.List.Elements.{All-head, All-tail, All-take}
 use Rattle.std.proofs.lemmas.List.{take_more, map_push}
 use Rattle.std.proofs.lemmas.Bool.{cases_lt}
 use Rattle.delays.specs.Kind.{Kind, Exact, Lawful, Within}
@@ -38,16 +38,20 @@ module _ {k : Kind} (laws : Lawful k) where
           | inr less ↦ before n less
         ]
 
-  total_size : {X : Type 0} (means : X → Exact k) (xs : List X) → All (λ x. k.size (means x) ≤ k.greatest) xs
-      → k.size (total k (map means xs)) ≤ length xs * k.greatest
-  total_size means [] h = omega (arith, laws.size_zero)
-  total_size means (x ∷ xs) h =
-      omega (arith, laws.size_sum (means x) (total k (map means xs)), total_size means xs h.1, h.0, suc-mul (length xs) k.greatest)
+  module _ {X : Type 0} (means : X → Exact k) where
+    -- the value is of a size of at most the greatest
+    abbrev IsSmall : X → Type 0
+    IsSmall x = k.size (means x) ≤ k.greatest
 
-  -- The size of a sum grows by at most the greatest with each value, and the reach has room for 256 of these.
-  pub small_within : {X : Type 0} (means : X → Exact k) (xs : List X) → 256 * k.greatest ≤ k.reach → length xs ≤ 256
-      → All (λ x. k.size (means x) ≤ k.greatest) xs → (n : ℕ) → Within k (total k (map means (take n xs)))
-  small_within means xs room few small n =
-      let part = total_size means (take n xs) (All-take _ n xs small) in
-      let long : length (take n xs) ≤ 256 = simp length-take (omega arith) in
-      omega (arith, part, mul-le-mul_right k.greatest long, room)
+    total_size : (xs : List X) → All IsSmall xs → k.size (total k (map means xs)) ≤ length xs * k.greatest
+    total_size [] h = omega (arith, laws.size_zero)
+    total_size (x ∷ xs) h =
+        let here : k.size (means x) ≤ k.greatest = All-head IsSmall x xs h in
+        omega (arith, laws.size_sum (means x) (total k (map means xs)), total_size xs (All-tail IsSmall x xs h), suc-mul (length xs) k.greatest)
+
+    -- The size of a sum grows by at most the greatest with each value, and the reach has room for 256 of these.
+    pub small_within : (xs : List X) → 256 * k.greatest ≤ k.reach → length xs ≤ 256 → All IsSmall xs → (n : ℕ) → Within k (total k (map means (take n xs)))
+    small_within xs room few small n =
+        let part = total_size (take n xs) (All-take IsSmall n xs small) in
+        let long : length (take n xs) ≤ 256 = simp length-take (omega arith) in
+        omega (arith, part, mul-le-mul_right k.greatest long, room)

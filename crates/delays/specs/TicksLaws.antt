@@ -1,9 +1,9 @@
 -- Ticks keep the laws of a kind: a row is its number, and the laws are those of whole numbers. Assumes nothing.
-use Rattle.std.specs.Prelude.{◌≡◌, true, T, ◌⊎◌, List, [], ◌∷◌, ℤ, pos, int_le, slice_index_or, refl}
+use Rattle.std.specs.Prelude.{◌≡◌, ◌*◌, ◌≤◌, true, T, ◌⊎◌, List, [], ◌∷◌, ℤ, pos, int_le, slice_index_or, refl}
 use Rattle.std.proofs.Common.{sym, ap, ◌∙◌, inl, inr, arith}
 use Rattle.std.proofs.Math.IntN.{+ℤ_assoc, +ℤ_comm, +ℤ_idr, +ℤ_invr}
 use Rattle.std.proofs.lemmas.Int.{ints, by_lt_z}
-use Rattle.delays.specs.Kind.{Kind, Row, Lawful}
+use Rattle.delays.specs.Kind.{Row, Lawful}
 use Rattle.delays.specs.Ticks.{one_number, tick, ticks, ticks_kind}
 
 row_is : (r : List ℤ) (h : T (one_number r)) → tick (slice_index_or r 0 (pos 0)) ≡ record { places = r; had = h }
@@ -41,3 +41,7 @@ ticks_lawful = record {
   parts_tell = λ x h. tick_ticks x;
   small_parts = λ x h p q. p;
 }
+
+-- the reach has room for 256 delays of the greatest size
+pub ticks_room : 256 * ticks_kind.greatest ≤ ticks_kind.reach
+ticks_room = omega arith

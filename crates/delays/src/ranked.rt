@@ -1,7 +1,7 @@
 // Delays in milliseconds, and in steps inside one millisecond.
 ghost use Rattle.std.specs.Prelude.{◌≡◌, ◌<◌, ◌≤◌, max, ◌+ℤ◌, MatchOption, unsigned_abs};
 ghost use Rattle.delays.specs.Ranked.{rank, ranked_kind};
-ghost use Rattle.std.proofs.Common.{rules, arith};
+ghost use Rattle.delays.specs.RankedLaws.{ranked_lawful, ranked_room, max_within};
 
 use crate::delay::Delay;
 
@@ -43,11 +43,11 @@ impl Delay for Ranked {
 
     ghost means = { λ x. rank x.t x.s };
 
-    ghost lawful = { first_of (Prim.search rules, Prim.grind (arith, Self.row.coded.inj)) };
+    ghost lawful = { ranked_lawful };
 
-    ghost room = { first_of (Prim.search rules, Prim.grind (arith, Self.row.coded.inj)) };
+    ghost room = { ranked_room };
 
-    ghost within = { first_of (Prim.search rules, Prim.grind (arith, Self.row.coded.inj)) };
+    ghost within = { λ x. max_within x.within.0 x.within.1 };
 
     fn limits() -> (u64, u64) {
         (Self::GREATEST, Self::REACH)

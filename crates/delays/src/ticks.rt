@@ -1,8 +1,7 @@
 // Delays in milliseconds.
 ghost use Rattle.std.specs.Prelude.{◌≡◌, ◌<◌, ◌≤◌, MatchOption, unsigned_abs};
 ghost use Rattle.delays.specs.Ticks.{tick, ticks_kind};
-ghost use Rattle.delays.specs.TicksLaws.{ticks_lawful};
-ghost use Rattle.std.proofs.Common.{rules, arith};
+ghost use Rattle.delays.specs.TicksLaws.{ticks_lawful, ticks_room};
 
 use crate::delay::Delay;
 
@@ -37,9 +36,9 @@ impl Delay for Ticks {
 
     ghost lawful = { ticks_lawful };
 
-    ghost room = { first_of (Prim.search rules, Prim.grind (arith, Self.row.coded.inj)) };
+    ghost room = { ticks_room };
 
-    ghost within = { first_of (Prim.search rules, Prim.grind (arith, Self.row.coded.inj)) };
+    ghost within = { λ x. x.within };
 
     fn limits() -> (u64, u64) {
         (Self::GREATEST, Self::REACH)

@@ -1,16 +1,16 @@
 -- Ranked delays keep the laws of a kind: a row is its two numbers, and the order goes by the first of them that differ. Assumes nothing.
-use Rattle.std.proofs.Common.{◌≡◌, ◌<◌, max, true, T, ◌⊎◌, List, [], ◌∷◌, get_or, ℤ, pos, ◌+ℤ◌, nat_abs, Some, None, Option, sym, refl, ap, ◌∙◌, inl, inr, arith, MatchOption}
-use lib.IntN.{+ℤ_assoc, +ℤ_comm, +ℤ_idr, +ℤ_invr}
+use Rattle.std.specs.Prelude.{◌≡◌, ℕ, ◌*◌, ◌≤◌, max, true, T, ◌⊎◌, List, [], ◌∷◌, ℤ, pos, ◌+ℤ◌, slice_index_or, refl}
+use Rattle.std.proofs.Common.{sym, ◌∙◌, inl, inr, arith}
+use Rattle.std.proofs.Math.IntN.{+ℤ_assoc, +ℤ_comm, +ℤ_idr, +ℤ_invr}
 use Rattle.std.proofs.lemmas.Int.{ints, by_lt_z}
-use Rattle.delays.specs.declared.ranked.Ranked.{Ranked}
-use Rattle.delays.specs.Kind.{Kind, Row, Lawful}
+use Rattle.delays.specs.Kind.{Row, Lawful}
 use Rattle.delays.specs.Ranked.{two_numbers, rank, first, second, before, ranked_kind}
 
 -- equal numbers make equal rows
-pub rank_same : {t u s v : ℤ} → t ≡ u → s ≡ v → rank t s ≡ rank u v
+rank_same : {t u s v : ℤ} → t ≡ u → s ≡ v → rank t s ≡ rank u v
 rank_same e f = cc
 
-row_is : (r : List ℤ) (h : T (two_numbers r)) → rank (get_or r 0 (pos 0)) (get_or r 1 (pos 0)) ≡ record { places = r; had = h }
+row_is : (r : List ℤ) (h : T (two_numbers r)) → rank (slice_index_or r 0 (pos 0)) (slice_index_or r 1 (pos 0)) ≡ record { places = r; had = h }
 row_is [] h = elim h [ ]
 row_is (t ∷ []) h = elim h [ ]
 row_is (t ∷ (s ∷ [])) h = refl
@@ -62,9 +62,10 @@ ranked_lawful = record {
   small_parts = λ x h p q. omega arith;
 }
 
--- what is made of two numbers is made of their equals
-pub made_at : (r : Option Ranked) {t u s v : ℤ} → t ≡ u → s ≡ v
-    → MatchOption r (1_099_511_627_776 < max (nat_abs t) (nat_abs s)) (λ x. (x.t ≡ t) × (x.s ≡ s))
-    → MatchOption r (1_099_511_627_776 < max (nat_abs u) (nat_abs v)) (λ x. rank x.t x.s ≡ rank u v)
-made_at None e f over = rw (sym e, sym f) over
-made_at (Some x) e f h = rank_same (h.0 ∙ e) (h.1 ∙ f)
+-- the larger of two sizes is within what both are within
+pub max_within : {m n k : ℕ} → m ≤ k → n ≤ k → max m n ≤ k
+max_within h i = omega arith
+
+-- the reach has room for 256 delays of the greatest size
+pub ranked_room : 256 * ranked_kind.greatest ≤ ranked_kind.reach
+ranked_room = omega arith
