@@ -1,6 +1,6 @@
 -- Numbers below n of which no two are equal are at most n, so of more some number comes twice. Assumes nothing.
 use Rattle.std.proofs.Common.{◌≡◌, ℕ, zero, suc, ◌+◌, ◌<◌, ◌≤◌, ◌⊎◌, List, [], ◌∷◌, map, length, sym, ap, ◌∙◌, inl, inr, arith}
-use Rattle.std.specs.List.{range_with_len, AllByRecursion as All}
+use Rattle.std.specs.List.{range_with_len, AllByRecursion as Each}
 use Rattle.std.proofs.lemmas.List.FromFn.{length-map-range_with_len}
 use Rattle.std.proofs.lemmas.Bool.{cases_eq}
 use Rattle.network.specs.Walks.{Apart}
@@ -9,15 +9,15 @@ use Rattle.network.specs.Walks.{Apart}
 record Without (n : ℕ) (xs : List ℕ) : Type 0 where
   rest : List ℕ
   apart : Apart rest
-  small : All (λ x. x < n) rest
+  small : Each (λ x. x < n) rest
   long : length xs ≤ suc (length rest)
-  keeps : (z : ℕ) → All (λ y. ¬ (z ≡ y)) xs → All (λ y. ¬ (z ≡ y)) rest
+  keeps : (z : ℕ) → Each (λ y. ¬ (z ≡ y)) xs → Each (λ y. ¬ (z ≡ y)) rest
 
-tighten : (n : ℕ) (xs : List ℕ) → All (λ y. ¬ (n ≡ y)) xs → All (λ y. y < suc n) xs → All (λ y. y < n) xs
+tighten : (n : ℕ) (xs : List ℕ) → Each (λ y. ¬ (n ≡ y)) xs → Each (λ y. y < suc n) xs → Each (λ y. y < n) xs
 tighten n [] a h = tt
 tighten n (x ∷ xs) a h = (let ne : ¬ (n ≡ x) = a.0 in omega arith, tighten n xs a.1 h.1)
 
-without : (n : ℕ) (xs : List ℕ) → Apart xs → All (λ x. x < suc n) xs → Without n xs
+without : (n : ℕ) (xs : List ℕ) → Apart xs → Each (λ x. x < suc n) xs → Without n xs
 without n [] a h = record { rest = []; apart = tt; small = tt; long = omega arith; keeps = λ z l. tt }
 without n (x ∷ xs) a h = go (cases_eq x n) (without n xs a.1 h.1)
   where
@@ -32,7 +32,7 @@ without n (x ∷ xs) a h = go (cases_eq x n) (without n xs a.1 h.1)
     }
 
 -- By induction on n: without the number n, if it is there, the others are below n, and are one fewer at most.
-pub apart_length : (n : ℕ) (xs : List ℕ) → Apart xs → All (λ x. x < n) xs → length xs ≤ n
+pub apart_length : (n : ℕ) (xs : List ℕ) → Apart xs → Each (λ x. x < n) xs → length xs ≤ n
 apart_length zero [] a h = omega arith
 apart_length zero (x ∷ xs) a h = let no_less : x < 0 = h.0 in omega arith
 apart_length (suc n) xs a h =
@@ -41,7 +41,7 @@ apart_length (suc n) xs a h =
     omega (arith, w.long)
 
 -- what holds of f at each number from i on, m of them
-pub all_counting : {A : Type 0} (P : A → Type 0) (f : ℕ → A) (i m : ℕ) → ((a : ℕ) → i ≤ a → a < i + m → P (f a)) → All P (map f (range_with_len i m))
+pub all_counting : {A : Type 0} (P : A → Type 0) (f : ℕ → A) (i m : ℕ) → ((a : ℕ) → i ≤ a → a < i + m → P (f a)) → Each P (map f (range_with_len i m))
 all_counting P f i zero h = tt
 all_counting P f i (suc m) h = (h i (omega arith) (omega arith), all_counting P f (i + 1) m (λ a l u. h a (omega arith) (omega arith)))
 

@@ -1,12 +1,12 @@
 -- The worked examples. Assumes nothing.
-use Rattle.std.proofs.Common.{◌≡◌, ℕ, ◌+◌, [], ◌∷◌, ◌++◌, get_or, pos, sym, refl, ap, arith}
-use lib.IntN.{pos-+ℤ-pos}
+use Rattle.std.proofs.Common.{◌≡◌, ℕ, [], ◌∷◌, ◌++◌, get_or, pos, sym, refl, ap, arith}
+use Rattle.std.proofs.Math.IntN.{pos-+ℤ-pos}
 use Rattle.std.proofs.lemmas.Int.{ints}
 use Rattle.delays.specs.Kind.{Exact}
 use Rattle.delays.specs.Ticks.{tick, ticks_kind}
 use Rattle.delays.specs.Ranked.{rank, ranked_kind}
 use Rattle.delays.specs.TicksLaws.{ticks_lawful}
-use Rattle.delays.proofs.RankedLaws.{ranked_lawful}
+use Rattle.delays.specs.RankedLaws.{ranked_lawful}
 use Rattle.network.specs.Bounds.{bounds_in_force}
 use Rattle.network.specs.Assignments.{Solution}
 use Rattle.network.specs.Earliest.{Reached}

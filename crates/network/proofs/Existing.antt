@@ -1,6 +1,6 @@
 -- The bounds in force hold a chain, or have earliest times. Assumes nothing.
-use Rattle.std.proofs.Common.{◌≡◌, ℕ, zero, suc, ◌+◌, ◌<◌, ◌⊎◌, [], ◌∷◌, ◌++◌, sym, refl, ap, ◌∙◌, subst, inl, inr, ⊎_elim, arith}
-use Rattle.std.specs.List.{ContainsAt as Has, AllByRecursion as All}
+use Rattle.std.proofs.Common.{◌≡◌, ℕ, zero, suc, ◌<◌, ◌⊎◌, [], ◌∷◌, ◌++◌, sym, refl, ap, ◌∙◌, subst, inl, inr, ⊎_elim, arith}
+use Rattle.std.specs.List.{ContainsAt as Has, AllByRecursion as Each}
 use Rattle.std.proofs.ByRecursion.{all-has, All-push}
 use Rattle.delays.specs.Kind.{Kind, Exact, Lawful}
 use Rattle.delays.proofs.TheoryLaws.{theory}
@@ -37,7 +37,7 @@ module _ {k : Kind} (laws : Lawful k) where
     value = sym (ap k.opposite (laws.zero_adds_nothing k.zero) ∙ (theory laws).opposite_zero);
   }
 
-  module _ (n : ℕ) (edges : Bounds k) (inside : All (Inside k n) edges) (floored : (p : ℕ) → p < n → Has edges (floor_of k p)) where
+  module _ (n : ℕ) (edges : Bounds k) (inside : Each (Inside k n) edges) (floored : (p : ℕ) → p < n → Has edges (floor_of k p)) where
     -- the best labels are reached where the old ones are
     reached_best : (old : ℕ → Exact k) → ((p : ℕ) → p < n → Reached k edges p (old p)) → (p : ℕ) → p < n → Reached k edges p (best laws old edges p)
     reached_best old reached p h = go (best_from laws old edges p)

@@ -1,7 +1,7 @@
 -- Paths are short, so earliest times are near zero. Assumes nothing.
 use Rattle.std.proofs.Common.{◌*◌, ◌<◌, ◌≤◌, [], ◌∷◌, map, length, ap, mul-le-mul_right, suc-mul, arith}
-use lib.ListN.{length-map}
-use Rattle.std.specs.List.{ContainsAt as Has, AllByRecursion as All}
+use Rattle.std.proofs.lemmas.List.{length-map}
+use Rattle.std.specs.List.{ContainsAt as Has, AllByRecursion as Each}
 use Rattle.std.proofs.ByRecursion.{all-has, All-map, All-weaker}
 use Rattle.delays.specs.Kind.{Kind, Lawful}
 use Rattle.network.specs.Bounds.{Bounds, Inside}
@@ -13,13 +13,13 @@ module _ {k : Kind} (laws : Lawful k) where
   -- the points that a path comes to are below n, and no two are equal
   pub path_short : PathShort k
   path_short n edges inside p q small row path =
-      let rights : All (λ x. x < n) (map (λ b. b.right) row) =
+      let rights : Each (λ x. x < n) (map (λ b. b.right) row) =
       All-map (λ x. x < n) (λ b. b.right) row (All-weaker (Has edges) (λ b. b.right < n) (λ b h. (all-has (Inside k n) edges b inside h).right) row path.held) in
       let few : length (stops p row) ≤ n = apart_length n (stops p row) path.apart (small, rights) in
       omega (arith, few, length-map row (λ b. b.right))
 
   -- the size of a sum is at most the greatest for each bound
-  sum_size : (row : Bounds k) → All (λ b. k.size b.delay ≤ k.greatest) row → k.size (sum_of k row) ≤ length row * k.greatest
+  sum_size : (row : Bounds k) → Each (λ b. k.size b.delay ≤ k.greatest) row → k.size (sum_of k row) ≤ length row * k.greatest
   sum_size [] h = omega (arith, laws.size_zero)
   sum_size (b ∷ bs) h = omega (arith, laws.size_sum b.delay (sum_of k bs), sum_size bs h.1, h.0, suc-mul (length bs) k.greatest)
 

@@ -1,6 +1,6 @@
 -- Relaxation by rounds, over bounds whose points are below n: it comes to rest, or goes on over a chain. Assumes nothing.
 use Rattle.std.proofs.Common.{◌≡◌, ℕ, cond, eqb, ◌⊎◌, [], ◌∷◌, refl, ◌∙◌, inl, inr, ⊎_elim, arith}
-use Rattle.std.specs.List.{ContainsAt as Has, AllByRecursion as All}
+use Rattle.std.specs.List.{ContainsAt as Has, AllByRecursion as Each}
 use Rattle.std.proofs.ByRecursion.{All-weaker, has_append_right}
 use Rattle.std.proofs.lemmas.Bool.{cases_eq, cases_Bool, cond-true, cond-false, eq-eqb, ne_eqb}
 use Rattle.delays.specs.Kind.{Kind, Exact, Lawful}
@@ -53,7 +53,7 @@ module _ {k : Kind} (laws : Lawful k) where
     best_old (b ∷ bs) p = laws.transitive _ _ _ (best_old bs p) (best_more b bs p)
 
     -- and is at least what each bound carries to it
-    pub best_carried : (bs : Bounds k) → All (λ b. Le k (brings b) (best bs b.right)) bs
+    pub best_carried : (bs : Bounds k) → Each (λ b. Le k (brings b) (best bs b.right)) bs
     best_carried [] = tt
     best_carried (b ∷ bs) = (
       rw (best_at b bs b.right refl) (greater_left (brings b) (best bs b.right)),

@@ -1,6 +1,6 @@
 -- Labels round by round: after n rounds they meet the bounds, or the bounds hold a chain. Assumes nothing.
 use Rattle.std.proofs.Common.{◌≡◌, ℕ, zero, suc, ◌+◌, ◌-◌, ◌<◌, ◌≤◌, Bool, true, false, cond, ltb, ◌⊎◌, sym, refl, ap, ◌∙◌, subst, inl, inr, ⊎_elim, arith}
-use Rattle.std.specs.List.{ContainsAt as Has, AllByRecursion as All}
+use Rattle.std.specs.List.{ContainsAt as Has, AllByRecursion as Each}
 use Rattle.std.proofs.ByRecursion.{All-weaker, all-has, all_has_itself}
 use Rattle.std.proofs.lemmas.Bool.{cases_Bool, cases_lt, cond-true, cond-false, lt-ltb, le-ltb}
 use Rattle.delays.specs.Kind.{Kind, Exact, Lawful}
@@ -38,7 +38,7 @@ extended_new : {A : Type 0} (m : ℕ) (f : ℕ → A) (x : A) (i : ℕ) → m �
 unfolding extended
 extended_new m f x i h = cond-false (ltb i m) (f i) x (le-ltb i m h)
 
-module _ {k : Kind} (laws : Lawful k) (n : ℕ) (edges : Bounds k) (inside : All (Inside k n) edges) where
+module _ {k : Kind} (laws : Lawful k) (n : ℕ) (edges : Bounds k) (inside : Each (Inside k n) edges) where
   -- the label of p after j rounds, all zero at first
   unfoldable pub label : ℕ → ℕ → Exact k
   label zero p = k.zero

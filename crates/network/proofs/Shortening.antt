@@ -1,6 +1,6 @@
 -- Walks cut to paths, and the earliest times. Assumes nothing.
 use Rattle.std.proofs.Common.{◌≡◌, ℕ, ◌⊎◌, List, [], ◌∷◌, ◌++◌, sym, refl, ap, ◌∙◌, subst, inl, inr}
-use Rattle.std.specs.List.{ContainsAt as Has, AllByRecursion as All}
+use Rattle.std.specs.List.{ContainsAt as Has, AllByRecursion as Each}
 use Rattle.std.proofs.lemmas.Bool.{cases_eq}
 use Rattle.delays.specs.Kind.{Kind, Exact, Lawful}
 use Rattle.network.specs.Bounds.{ExactBound, Bounds}
@@ -10,11 +10,11 @@ use Rattle.network.specs.Earliest.{Reached, EarliestReached, EarliestLeast, Earl
 use Rattle.network.proofs.Orders.{zero_left, sum_orders, no_less, opposites_reverse}
 use Rattle.network.proofs.Walking.{walk_bounds_below, closed_at_least}
 
-pub all_front : {A : Type 0} (P : A → Type 0) (xs ys : List A) → All P (xs ++ ys) → All P xs
+pub all_front : {A : Type 0} (P : A → Type 0) (xs ys : List A) → Each P (xs ++ ys) → Each P xs
 all_front P [] ys h = tt
 all_front P (x ∷ xs) ys h = (h.0, all_front P xs ys h.1)
 
-pub all_back : {A : Type 0} (P : A → Type 0) (xs ys : List A) → All P (xs ++ ys) → All P ys
+pub all_back : {A : Type 0} (P : A → Type 0) (xs ys : List A) → Each P (xs ++ ys) → Each P ys
 all_back P [] ys h = h
 all_back P (x ∷ xs) ys h = all_back P xs ys h.1
 
@@ -29,7 +29,7 @@ record Parted {k : Kind} (p r q : ℕ) (row : Bounds k) : Type 0 where
 
 -- a walk that does not come to p
 abbrev Off : {k : Kind} → ℕ → ℕ → Bounds k → Type 0
-Off p r row = All (λ y. ¬ (p ≡ y)) (stops r row)
+Off p r row = Each (λ y. ¬ (p ≡ y)) (stops r row)
 
 seek : {k : Kind} (p r q : ℕ) (row : Bounds k) → Walk r row q → Parted p r q row ⊎ Off p r row
 seek {k} p r q [] w = go (cases_eq p r)
@@ -74,7 +74,7 @@ module _ {k : Kind} (laws : Lawful k) where
       less = sum_orders laws b.delay _ _ r.less;
     }
     lead p q b bs e f r (inl c) =
-        let parts : All (Has edges) (c.front ++ c.back) = rw c.split at r.path.held in
+        let parts : Each (Has edges) (c.front ++ c.back) = rw c.split at r.path.held in
         let loop = b ∷ c.front in
         let free : Le k k.zero (sum_of k loop) = closed_at_least laws edges t s p loop (e, c.there) (f, all_front (Has edges) c.front c.back parts) in
         let whole : sum_of k (b ∷ r.cut) ≡ k.sum (sum_of k loop) (sum_of k c.back) = ap (λ l. sum_of k (b ∷ l)) c.split ∙ sum-append loop c.back in
@@ -84,14 +84,14 @@ module _ {k : Kind} (laws : Lawful k) where
           less = laws.transitive _ _ _ (rw whole (no_less laws (sum_of k loop) (sum_of k c.back) free)) (sum_orders laws b.delay _ _ r.less);
         }
 
-    shortened : (p q : ℕ) (row : Bounds k) → Walk p row q → All (Has edges) row → Shorter k edges p q row
+    shortened : (p q : ℕ) (row : Bounds k) → Walk p row q → Each (Has edges) row → Shorter k edges p q row
     shortened p q [] w h = record { cut = []; path = record { walk = w; apart = (tt, tt); held = tt }; less = laws.reflexive k.zero }
     shortened p q (b ∷ bs) w h =
         let r = shortened b.right q bs w.1 h.1 in
         lead p q b bs w.0 h.0 r (seek p b.right q r.cut r.path.walk)
 
     -- the sum of a walk that gives the time of p is at most that of any walk to p
-    under : (p : ℕ) (r : Reached k edges p (t p)) (other : Bounds k) → Walk 0 other p → All (Has edges) other → Le k (sum_of k r.row) (sum_of k other)
+    under : (p : ℕ) (r : Reached k edges p (t p)) (other : Bounds k) → Walk 0 other p → Each (Has edges) other → Le k (sum_of k r.row) (sum_of k other)
     under p r other w h = opposites_reverse laws (sum_of k other) (sum_of k r.row) (rw r.value at (walk_bounds_below laws edges t s p other w h))
 
   pub walk_shortens : WalkShortens k

@@ -1,7 +1,7 @@
 -- A chain begun elsewhere, and the chain that a posted bound closes. Assumes nothing.
 use Rattle.std.proofs.Common.{◌≡◌, ℕ, ◌⊎◌, List, [], ◌∷◌, ◌++◌, sym, refl, ap, ◌∙◌, inl, inr, append_assoc, append-nil}
-use mathlib.Core.List.{map-append}
-use Rattle.std.specs.List.{ContainsAt as Has, AllByRecursion as All}
+use Rattle.std.proofs.lemmas.List.{map-append}
+use Rattle.std.specs.List.{ContainsAt as Has, AllByRecursion as Each}
 use Rattle.std.proofs.ByRecursion.{All-push, all-has, All-weaker, All-append, all_has_itself, has_append_left, has_append_right}
 use Rattle.delays.specs.Kind.{Kind, Exact, Lawful}
 use Rattle.network.specs.Bounds.{ExactBound, Bounds, floors, bounds_in_force}
@@ -15,7 +15,7 @@ pub walk_push : {k : Kind} (xs : Bounds k) (x : ExactBound k) (p q : ℕ) → Wa
 walk_push [] x p q w e = (e ∙ sym w, refl)
 walk_push (b ∷ bs) x p q w e = (w.0, walk_push bs x b.right q w.1 e)
 
-apart_push : (xs : List ℕ) (x : ℕ) → All (λ y. ¬ (x ≡ y)) xs → Apart xs → Apart (xs ++ x ∷ [])
+apart_push : (xs : List ℕ) (x : ℕ) → Each (λ y. ¬ (x ≡ y)) xs → Apart xs → Apart (xs ++ x ∷ [])
 apart_push [] x h a = (tt, tt)
 apart_push (y ∷ ys) x h a = (All-push (λ z. ¬ (y ≡ z)) ys x a.0 (λ e. h.0 (sym e)), apart_push ys x h.1 a.1)
 
@@ -44,11 +44,11 @@ module _ {k : Kind} (laws : Lawful k) where
 
   module _ (old new : Bounds k) (b : ExactBound k) (either : (x : ExactBound k) → Has new x → Has old x ⊎ (b ≡ x)) where
     -- a row over the new bounds is one over the old ones, or has b
-    old_or_new : (row : Bounds k) → All (Has new) row → All (Has old) row ⊎ Split b row
+    old_or_new : (row : Bounds k) → Each (Has new) row → Each (Has old) row ⊎ Split b row
     old_or_new [] h = inl tt
     old_or_new (x ∷ xs) h = go (either x h.0) (old_or_new xs h.1)
       where
-        go : Has old x ⊎ (b ≡ x) → All (Has old) xs ⊎ Split b xs → All (Has old) (x ∷ xs) ⊎ Split b (x ∷ xs)
+        go : Has old x ⊎ (b ≡ x) → Each (Has old) xs ⊎ Split b xs → Each (Has old) (x ∷ xs) ⊎ Split b (x ∷ xs)
         go (inl f) (inl a) = inl (f, a)
         go (inl f) (inr s) = inr (x ∷ s.0, s.1, ap {B = Bounds k} (λ l. x ∷ l) s.2)
         go (inr e) d = inr ([], xs, ap {B = Bounds k} (λ y. y ∷ xs) (sym e))
@@ -57,7 +57,7 @@ module _ {k : Kind} (laws : Lawful k) where
     pub from_new : (t : ℕ → Exact k) → Solution k old t → (row : Bounds k) → ChainIn k new row → ChainFrom k new b row
     from_new t s row c = go (old_or_new row c.held)
       where
-        go : All (Has old) row ⊎ Split b row → ChainFrom k new b row
+        go : Each (Has old) row ⊎ Split b row → ChainFrom k new b row
         go (inl a) = absurd (chain_refutes laws old row (record { chain = c.chain; held = a }) t s)
         go (inr p) = record { front = p.0; back = p.1; split = p.2; turned = chain_turns new p.0 (b ∷ p.1) (rw p.2 at c) }
 
