@@ -1,8 +1,8 @@
 -- Reads of lists, and what the checks of times and of chains keep from turn to turn. Assumes nothing.
 use Rattle.std.proofs.Common.{◌≡◌, ℕ, ◌+◌, ◌*◌, ◌<◌, ◌≤◌, Bool, false, List, [], ◌∷◌, map, length, get_or, take, drop, Some, None, Decides, Option, sym, refl, ap, ◌∙◌, subst, ⊎_elim, arith, MatchOption}
 use Rattle.std.proofs.lemmas.Simd.{map-map}
-use Rattle.std.specs.List.{All, AllByRecursion as Each}
-use Rattle.std.proofs.ByRecursion.{All-map}
+use Rattle.std.specs.List.{All}
+use Rattle.std.proofs.lemmas.List.Elements.{All-map, All-nil, All-cons, All-head, All-tail}
 use Rattle.std.proofs.lemmas.List.{get_or-map, get_or_past, length-map, drop_more}
 use Rattle.std.proofs.lemmas.Bool.{both_ways, cases_lt}
 use Rattle.delays.specs.Kind.{Kind, Exact, Lawful, Within}
@@ -33,9 +33,10 @@ read_past f xs i d h = sym (get_or_past (map f xs) i d (rw (length-map xs f) h))
 pub drop_read : {X : Type 0} (xs : List X) (i : ℕ) (x : X) → i < length xs → x ≡ get_or xs i x → drop i xs ≡ x ∷ drop (i + 1) xs
 drop_read xs i x h is = drop_more xs i x h ∙ ap (λ y. y ∷ drop (i + 1) xs) (sym is)
 
-pub all_unmap : {X Y : Type 0} (P : Y → Type 0) (f : X → Y) (xs : List X) → Each P (map f xs) → Each (λ x. P (f x)) xs
-all_unmap P f [] h = tt
-all_unmap P f (x ∷ xs) h = (h.0, all_unmap P f xs h.1)
+pub all_unmap : {X Y : Type 0} (P : Y → Type 0) (f : X → Y) (xs : List X) → All P (map f xs) → All (λ x. P (f x)) xs
+all_unmap P f [] h = All-nil (λ x. P (f x))
+all_unmap P f (x ∷ xs) h =
+    All-cons (λ x. P (f x)) x xs (All-head P (f x) (map f xs) h) (all_unmap P f xs (All-tail P (f x) (map f xs) h))
 
 module _ {X : Type 0} (k : Kind) (means : X → Exact k) where
   -- the left points of a row, and its sum, by its edges
@@ -68,12 +69,12 @@ module _ {X : Type 0} (k : Kind) (means : X → Exact k) where
 
   module _ (row : List (Edge X)) (i : ℕ) (e : Edge X) (h : i < length row) (is : e ≡ get_or row i e) where
     -- the left points of what is left are apart exactly when the first is none of the others, and those are apart
-    pub apart_first : Apart (map (λ e. e.left) (drop i row)) → Each (λ x. ¬ (e.left ≡ x.left)) (drop (i + 1) row) × Apart (map (λ e. e.left) (drop (i + 1) row))
+    pub apart_first : Apart (map (λ e. e.left) (drop i row)) → All (λ x. ¬ (e.left ≡ x.left)) (drop (i + 1) row) × Apart (map (λ e. e.left) (drop (i + 1) row))
     apart_first a =
         let both = subst (λ (l : List (Edge X)). Apart (map (λ x. x.left) l)) (drop_read row i e h is) a in
         (all_unmap (λ p. ¬ (e.left ≡ p)) (λ x. x.left) (drop (i + 1) row) both.0, both.1)
 
-    pub apart_more : Each (λ x. ¬ (e.left ≡ x.left)) (drop (i + 1) row) → Apart (map (λ e. e.left) (drop (i + 1) row)) → Apart (map (λ e. e.left) (drop i row))
+    pub apart_more : All (λ x. ¬ (e.left ≡ x.left)) (drop (i + 1) row) → Apart (map (λ e. e.left) (drop (i + 1) row)) → Apart (map (λ e. e.left) (drop i row))
     apart_more others apart =
         subst (λ (l : List (Edge X)). Apart (map (λ x. x.left) l)) (sym (drop_read row i e h is)) (All-map (λ p. ¬ (e.left ≡ p)) (λ x. x.left) (drop (i + 1) row) others, apart)
 

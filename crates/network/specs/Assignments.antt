@@ -1,6 +1,5 @@
 -- Assignments of times to points, and the bounds that they meet. Assumes nothing.
-use Rattle.std.specs.Prelude.{◌≡◌, ℕ, true, false}
-use Rattle.std.specs.List.{AllByRecursion as Each}
+use Rattle.std.specs.Prelude.{◌≡◌, ℕ, true, false, All}
 use Rattle.delays.specs.Kind.{Kind, Exact}
 use Rattle.network.specs.Bounds.{ExactBound, Bounds}
 
@@ -23,4 +22,4 @@ Meets k t b = Le k (t b.left) (limit k t b)
 -- an assignment, which gives each point a time and point 0 the time zero, that meets every bound of the list
 pub record Solution (k : Kind) (edges : Bounds k) (t : ℕ → Exact k) : Type 0 where
   pub zero_first : t 0 ≡ k.zero
-  pub meets : Each (Meets k t) edges
+  pub meets : All (Meets k t) edges

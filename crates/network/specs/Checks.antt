@@ -1,6 +1,5 @@
 -- What the checks of times, of chains and of walks answer. Assumes nothing.
-use Rattle.std.specs.Prelude.{◌≡◌, ℕ, ◌<◌, ◌≤◌, Bool, List, length, take, Some, None, Ok, Err, Decides, Option, Result, slice_index_or}
-use Rattle.std.specs.List.{AllByRecursion as Each}
+use Rattle.std.specs.Prelude.{◌≡◌, ℕ, ◌<◌, ◌≤◌, Bool, List, length, take, Some, None, Ok, Err, Decides, Option, Result, slice_index_or, All}
 use Rattle.delays.specs.Kind.{Kind, Exact, Within}
 use Rattle.network.specs.declared.edge.Edge.{Edge}
 use Rattle.network.specs.declared.times.Mismatch.{Mismatch}
@@ -31,13 +30,13 @@ module _ {X : Type 0} (k : Kind) (means : X → Exact k) where
   -- the times meet the edges up to the number i, and P holds of the edge with that number
   pub record MetUpto (edges : List (Edge X)) (times : List X) (i : ℕ) (P : Edge X → Type 0) : Type 0 where
     pub zero_first : time_of_point k means times 0 ≡ k.zero
-    pub before : Each (MetWithin times) (take i edges)
+    pub before : All (MetWithin times) (take i edges)
     pub number : i < length edges
     pub here : (e : Edge X) → P (slice_index_or edges i e)
 
   -- the answer to times: they meet every edge; or point 0 is not at zero; or the number of the first edge that can't be checked or is not met
   abbrev pub TimesChecked : List (Edge X) → List X → Result (Unit {0}) Mismatch → Type 0
-  TimesChecked edges times (Ok _) = Solution k (bounds_of k means edges) (time_of_point k means times) × Each (λ e. Within k (limit_at times e)) edges
+  TimesChecked edges times (Ok _) = Solution k (bounds_of k means edges) (time_of_point k means times) × All (λ e. Within k (limit_at times e)) edges
   TimesChecked edges times (Err Start) = time_of_point k means times 0 ≡ k.zero → ⊥
   TimesChecked edges times (Err (Reach i)) = MetUpto edges times i (λ e. k.reach < k.size (limit_at times e))
   TimesChecked edges times (Err (Unmet i)) = MetUpto edges times i (λ e. Within k (limit_at times e) × (Met times e → ⊥))

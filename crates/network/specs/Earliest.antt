@@ -1,6 +1,5 @@
 -- Earliest times. Assumes nothing.
-use Rattle.std.specs.Prelude.{◌≡◌, ℕ, ◌*◌, ◌<◌, ◌≤◌}
-use Rattle.std.specs.List.{ContainsAt as Has, AllByRecursion as Each}
+use Rattle.std.specs.Prelude.{◌≡◌, ℕ, ◌*◌, ◌<◌, ◌≤◌, All, Contains}
 use Rattle.delays.specs.Kind.{Kind, Exact}
 use Rattle.network.specs.Bounds.{Bounds, Inside}
 use Rattle.network.specs.Assignments.{Le, Solution}
@@ -17,7 +16,7 @@ pub record Earliest (k : Kind) (edges : Bounds k) (p : ℕ) (x : Exact k) : Type
 pub record Reached (k : Kind) (edges : Bounds k) (p : ℕ) (x : Exact k) : Type 0 where
   pub row : Bounds k
   pub walk : Walk 0 row p
-  pub held : Each (Has edges) row
+  pub held : All (Contains edges) row
   pub value : x ≡ k.opposite (sum_of k row)
 
 -- The theorems.
@@ -36,7 +35,7 @@ EarliestOne k = (edges : Bounds k) (p : ℕ) (x y : Exact k) → Earliest k edge
 
 -- over n points and delays of a size of at most the greatest, an earliest time has a size of at most n times that
 abbrev pub EarliestNear : Kind → Type 0
-EarliestNear k = (n : ℕ) (edges : Bounds k) → Each (Inside k n) edges → Each (λ b. k.size b.delay ≤ k.greatest) edges
+EarliestNear k = (n : ℕ) (edges : Bounds k) → All (Inside k n) edges → All (λ b. k.size b.delay ≤ k.greatest) edges
     → 0 < n → (p : ℕ) (x : Exact k) → Earliest k edges p x → k.size x ≤ n * k.greatest
 
 pub record EarliestTheory (k : Kind) : Type 0 where

@@ -1,6 +1,5 @@
 // Whether a row of edges is a chain.
 ghost use Rattle.std.specs.Prelude.{◌≡◌, ◌≤◌, true, map, length, All, is_some, Decides};
-ghost use Rattle.std.specs.List.{AllByRecursion as Each};
 ghost use Rattle.network.specs.Checks.{Cycle, ChainChecked};
 ghost use Rattle.network.specs.Assignments.{Lt};
 ghost use Rattle.network.specs.Walks.{Apart};
@@ -13,7 +12,7 @@ use delays::Delay;
 
 // Whether no edge of the row leaves the point.
 fn never_leaves<D: Delay>(row: &[Edge<D>], point: usize) -> bool
-    ensures { Decides result (Each (λ e. ¬ (point ≡ e.left)) row.now) }
+    ensures { Decides result (All (λ e. ¬ (point ≡ e.left)) row.now) }
 {
     for edge in row {
         if edge.left == point {

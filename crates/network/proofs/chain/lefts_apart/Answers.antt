@@ -1,5 +1,5 @@
 use Rattle.std.proofs.Common.{◌≡◌, ◌+◌, map, drop, sym, refl, subst}
-use Rattle.std.specs.List.{AllByRecursion as Each}
+use Rattle.std.specs.List.{All}
 use Rattle.std.proofs.lemmas.List.{drop_all, take_rest}
 use Rattle.std.proofs.lemmas.Bool.{both_ways}
 use Rattle.network.specs.Walks.{Apart}
@@ -15,7 +15,7 @@ returns-then-not-never_leaves g c =
     let i = c.loop-i.i in
     let edge = c.index-row-i.result in
     let first = apart_first g.D.Delay.kind g.D.Delay.means row i edge c.loop-i-test.true c.index-row-i.is in
-    let others = λ (a : Apart (map (λ e. e.left) row)). subst (Each (λ e. ¬ (edge.left ≡ e.left))) (sym (take_rest row (i + 1))) (first (c.loop-i.invariant.1 a)).0 in
+    let others = λ (a : Apart (map (λ e. e.left) row)). subst (All (λ e. ¬ (edge.left ≡ e.left))) (sym (take_rest row (i + 1))) (first (c.loop-i.invariant.1 a)).0 in
     answers_no (λ a. both_ways _ c.if-not-never_leaves.true (c.never_leaves.ensures.1 (others a)))
 
 pub loop-i-preserved : goal.loop-i-preserved
@@ -25,8 +25,8 @@ loop-i-preserved g c =
     let edge = c.index-row-i.result in
     let first = apart_first g.D.Delay.kind g.D.Delay.means row i edge c.loop-i-test.true c.index-row-i.is in
     let more = apart_more g.D.Delay.kind g.D.Delay.means row i edge c.loop-i-test.true c.index-row-i.is in
-    let others : Each (λ e. ¬ (edge.left ≡ e.left)) (drop (i + 1) row) =
-    subst (Each (λ e. ¬ (edge.left ≡ e.left))) (take_rest row (i + 1)) (c.never_leaves.ensures.0 c.if-not-never_leaves.false) in
+    let others : All (λ e. ¬ (edge.left ≡ e.left)) (drop (i + 1) row) =
+    subst (All (λ e. ¬ (edge.left ≡ e.left))) (take_rest row (i + 1)) (c.never_leaves.ensures.0 c.if-not-never_leaves.false) in
     (λ a. c.loop-i.invariant.0 (more others a), λ a. (first (c.loop-i.invariant.1 a)).1)
 
 pub returns : goal.returns

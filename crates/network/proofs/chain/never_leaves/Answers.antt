@@ -1,6 +1,6 @@
 use Rattle.std.proofs.Common.{◌≡◌, get_or, sym, refl, ap, ◌∙◌, subst}
-use Rattle.std.specs.List.{AllByRecursion as Each}
-use Rattle.std.proofs.ByRecursion.{All-more, All-get_or}
+use Rattle.std.specs.List.{All}
+use Rattle.std.proofs.lemmas.List.Elements.{All-more, All-get_or}
 use Rattle.std.proofs.lemmas.List.{take_all}
 use Rattle.network.proofs.Checking.{answers_no}
 use Rattle.network.proofs.chain.never_leaves.Goals as goal
@@ -20,4 +20,4 @@ loop-edge-preserved g c =
 
 pub returns : goal.returns
 returns g c =
-    (λ e. subst (Each (λ e. ¬ (c.args.point ≡ e.left))) (take_all _ _ c.loop-edge-test.false) c.loop-edge.invariant, λ a. refl)
+    (λ e. subst (All (λ e. ¬ (c.args.point ≡ e.left))) (take_all _ _ c.loop-edge-test.false) c.loop-edge.invariant, λ a. refl)

@@ -1,8 +1,8 @@
 use Rattle.std.proofs.Common.{take}
-use Rattle.std.specs.List.{AllByRecursion as Each}
+use Rattle.std.specs.List.{All}
 use Rattle.network.specs.Checks.{MetWithin}
 use Rattle.network.proofs.times.checked.Given as goal
 
 -- the edges so far are met
 abbrev pub invariant-loop-number : goal.invariant-loop-number
-invariant-loop-number g l = Each (MetWithin g.D.Delay.kind g.D.Delay.means l.times) (take l.number l.edges)
+invariant-loop-number g l = All (MetWithin g.D.Delay.kind g.D.Delay.means l.times) (take l.number l.edges)

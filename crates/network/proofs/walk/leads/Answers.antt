@@ -15,7 +15,7 @@ returns-then-edge-at g c =
     let i = c.loop-edge.edge-index in
     let edge = c.edge-item.result in
     let first = leads_first d.kind d.means c.args.row.now c.args.to c.loop-edge.at i edge c.loop-edge-test.true c.edge-item.is in
-    answers_no (λ w. c.if-edge-at.true (first (c.loop-edge.invariant.1 w)).0)
+    answers_no {P = Walk c.args.from (bounds_of d.kind d.means c.args.row.now) c.args.to} (λ w. c.if-edge-at.true (first (c.loop-edge.invariant.1 w)).0)
 
 pub loop-edge-preserved : goal.loop-edge-preserved
 loop-edge-preserved g c =
