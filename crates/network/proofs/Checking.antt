@@ -1,14 +1,14 @@
 -- Reads of lists, and what the checks of times and of chains keep from turn to turn. Assumes nothing.
 use Rattle.std.proofs.Common.{◌≡◌, ℕ, ◌+◌, ◌*◌, ◌<◌, ◌≤◌, Bool, false, List, [], ◌∷◌, map, length, get_or, take, drop, Some, None, Decides, Option, sym, refl, ap, ◌∙◌, subst, ⊎_elim, arith, MatchOption}
-use mathlib.Core.List.{map-map}
-use Rattle.std.specs.List.{AllByRecursion as All}
-use Rattle.std.proofs.ByRecursion.{All-map}
+use Rattle.std.proofs.lemmas.Simd.{map-map}
+use Rattle.std.specs.List.{All}
+use Rattle.std.proofs.lemmas.List.Elements.{All-map, All-nil, All-cons, All-head, All-tail}
 use Rattle.std.proofs.lemmas.List.{get_or-map, get_or_past, length-map, drop_more}
 use Rattle.std.proofs.lemmas.Bool.{both_ways, cases_lt}
 use Rattle.delays.specs.Kind.{Kind, Exact, Lawful, Within}
 use Rattle.delays.specs.Totals.{total}
 use Rattle.delays.proofs.TotalLaws.{first_total, total_next, within_none as total_none, small_within as total_small}
-use Rattle.network.specs.Bounds.{ExactBound, Numbered}
+use Rattle.network.specs.Bounds.{Numbered}
 use Rattle.network.specs.Assignments.{Lt}
 use Rattle.network.specs.Walks.{sum_of, Walk, lefts, Apart}
 use Rattle.network.specs.Chains.{Chain}
@@ -34,8 +34,9 @@ pub drop_read : {X : Type 0} (xs : List X) (i : ℕ) (x : X) → i < length xs �
 drop_read xs i x h is = drop_more xs i x h ∙ ap (λ y. y ∷ drop (i + 1) xs) (sym is)
 
 pub all_unmap : {X Y : Type 0} (P : Y → Type 0) (f : X → Y) (xs : List X) → All P (map f xs) → All (λ x. P (f x)) xs
-all_unmap P f [] h = tt
-all_unmap P f (x ∷ xs) h = (h.0, all_unmap P f xs h.1)
+all_unmap P f [] h = All-nil (λ x. P (f x))
+all_unmap P f (x ∷ xs) h =
+    All-cons (λ x. P (f x)) x xs (All-head P (f x) (map f xs) h) (all_unmap P f xs (All-tail P (f x) (map f xs) h))
 
 module _ {X : Type 0} (k : Kind) (means : X → Exact k) where
   -- the left points of a row, and its sum, by its edges

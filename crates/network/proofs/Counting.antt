@@ -1,6 +1,7 @@
 -- Numbers below n of which no two are equal are at most n, so of more some number comes twice. Assumes nothing.
 use Rattle.std.proofs.Common.{◌≡◌, ℕ, zero, suc, ◌+◌, ◌<◌, ◌≤◌, ◌⊎◌, List, [], ◌∷◌, map, length, sym, ap, ◌∙◌, inl, inr, arith}
-use Rattle.std.specs.List.{range_with_len, AllByRecursion as All}
+use Rattle.std.specs.List.{All, range_with_len}
+use Rattle.std.proofs.lemmas.List.Elements.{All-nil, All-cons, All-head, All-tail}
 use Rattle.std.proofs.lemmas.List.FromFn.{length-map-range_with_len}
 use Rattle.std.proofs.lemmas.Bool.{cases_eq}
 use Rattle.network.specs.Walks.{Apart}
@@ -14,27 +15,39 @@ record Without (n : ℕ) (xs : List ℕ) : Type 0 where
   keeps : (z : ℕ) → All (λ y. ¬ (z ≡ y)) xs → All (λ y. ¬ (z ≡ y)) rest
 
 tighten : (n : ℕ) (xs : List ℕ) → All (λ y. ¬ (n ≡ y)) xs → All (λ y. y < suc n) xs → All (λ y. y < n) xs
-tighten n [] a h = tt
-tighten n (x ∷ xs) a h = (let ne : ¬ (n ≡ x) = a.0 in omega arith, tighten n xs a.1 h.1)
+tighten n [] a h = All-nil (λ y. y < n)
+tighten n (x ∷ xs) a h =
+    let ne : ¬ (n ≡ x) = All-head (λ y. ¬ (n ≡ y)) x xs a in
+    let below : x < suc n = All-head (λ y. y < suc n) x xs h in
+    All-cons (λ y. y < n) x xs (omega arith) (tighten n xs (All-tail (λ y. ¬ (n ≡ y)) x xs a) (All-tail (λ y. y < suc n) x xs h))
 
 without : (n : ℕ) (xs : List ℕ) → Apart xs → All (λ x. x < suc n) xs → Without n xs
-without n [] a h = record { rest = []; apart = tt; small = tt; long = omega arith; keeps = λ z l. tt }
-without n (x ∷ xs) a h = go (cases_eq x n) (without n xs a.1 h.1)
+without n [] a h = record { rest = []; apart = tt; small = All-nil (λ x. x < n); long = omega arith; keeps = λ z l. l }
+without n (x ∷ xs) a h = go (cases_eq x n) (without n xs a.1 rest)
   where
+    rest : All (λ y. y < suc n) xs
+    rest = All-tail (λ y. y < suc n) x xs h
+
     go : (x ≡ n) ⊎ (x ≡ n → ⊥) → Without n xs → Without n (x ∷ xs)
-    go (inl e) w = record { rest = xs; apart = a.1; small = tighten n xs (rw e at a.0) h.1; long = omega arith; keeps = λ z l. l.1 }
+    go (inl e) w = record {
+      rest = xs;
+      apart = a.1;
+      small = tighten n xs (rw e at a.0) rest;
+      long = omega arith;
+      keeps = λ z. All-tail (λ y. ¬ (z ≡ y)) x xs;
+    }
     go (inr e) w = record {
       rest = x ∷ w.rest;
       apart = (w.keeps x a.0, w.apart);
-      small = (let below : x < suc n = h.0 in omega arith, w.small);
+      small = let below : x < suc n = All-head (λ y. y < suc n) x xs h in All-cons (λ y. y < n) x w.rest (omega arith) w.small;
       long = omega arith;
-      keeps = λ z l. (l.0, w.keeps z l.1);
+      keeps = λ z l. All-cons (λ y. ¬ (z ≡ y)) x w.rest (All-head (λ y. ¬ (z ≡ y)) x xs l) (w.keeps z (All-tail (λ y. ¬ (z ≡ y)) x xs l));
     }
 
 -- By induction on n: without the number n, if it is there, the others are below n, and are one fewer at most.
 pub apart_length : (n : ℕ) (xs : List ℕ) → Apart xs → All (λ x. x < n) xs → length xs ≤ n
 apart_length zero [] a h = omega arith
-apart_length zero (x ∷ xs) a h = let no_less : x < 0 = h.0 in omega arith
+apart_length zero (x ∷ xs) a h = let no_less : x < 0 = All-head (λ y. y < 0) x xs h in omega arith
 apart_length (suc n) xs a h =
     let w = without n xs a h in
     let fewer : length w.rest ≤ n = apart_length n w.rest w.apart w.small in
@@ -42,8 +55,9 @@ apart_length (suc n) xs a h =
 
 -- what holds of f at each number from i on, m of them
 pub all_counting : {A : Type 0} (P : A → Type 0) (f : ℕ → A) (i m : ℕ) → ((a : ℕ) → i ≤ a → a < i + m → P (f a)) → All P (map f (range_with_len i m))
-all_counting P f i zero h = tt
-all_counting P f i (suc m) h = (h i (omega arith) (omega arith), all_counting P f (i + 1) m (λ a l u. h a (omega arith) (omega arith)))
+all_counting P f i zero h = All-nil P
+all_counting P f i (suc m) h =
+    All-cons P (f i) (map f (range_with_len (i + 1) m)) (h i (omega arith) (omega arith)) (all_counting P f (i + 1) m (λ a l u. h a (omega arith) (omega arith)))
 
 pub apart_counting : (f : ℕ → ℕ) (i m : ℕ) → ((a b : ℕ) → i ≤ a → a < b → b < i + m → ¬ (f a ≡ f b)) → Apart (map f (range_with_len i m))
 apart_counting f i zero h = tt

@@ -1,37 +1,50 @@
 -- The worked examples. Assumes nothing.
-use Rattle.std.proofs.Common.{◌≡◌, ℕ, ◌+◌, [], ◌∷◌, ◌++◌, get_or, pos, sym, refl, ap, arith}
-use lib.IntN.{pos-+ℤ-pos}
+use Rattle.std.proofs.Common.{◌≡◌, ℕ, [], ◌∷◌, ◌++◌, get_or, pos, sym, refl, ap, arith}
+use Rattle.std.proofs.Math.IntN.{pos-+ℤ-pos}
 use Rattle.std.proofs.lemmas.Int.{ints}
-use Rattle.delays.specs.Kind.{Exact}
+use Rattle.std.specs.List.{All, AllByRecursion, Contains}
+use Rattle.std.proofs.lemmas.List.Elements.{All-from_recursion, All-nil}
+use Rattle.delays.specs.Kind.{Kind, Exact}
 use Rattle.delays.specs.Ticks.{tick, ticks_kind}
 use Rattle.delays.specs.Ranked.{rank, ranked_kind}
 use Rattle.delays.specs.TicksLaws.{ticks_lawful}
-use Rattle.delays.proofs.RankedLaws.{ranked_lawful}
-use Rattle.network.specs.Bounds.{bounds_in_force}
-use Rattle.network.specs.Assignments.{Solution}
+use Rattle.delays.specs.RankedLaws.{ranked_lawful}
+use Rattle.network.specs.Bounds.{Bounds, bounds_in_force}
+use Rattle.network.specs.Assignments.{Meets, Solution}
 use Rattle.network.specs.Earliest.{Reached}
-use Rattle.network.specs.Worked.{five_five, five, before_itself, steps, before_next, Worked}
+use Rattle.network.specs.Worked.{five_five, five, five_six, before_itself, steps, before_next, Worked}
 use Rattle.network.proofs.Orders.{not_both}
 use Rattle.network.proofs.Shortening.{earliest_reached}
 use Rattle.network.proofs.Walking.{chain_refutes}
 
+-- bounds that are met one by one, and bounds that are held one by one
+met : (k : Kind) (edges : Bounds k) (t : ℕ → Exact k) → AllByRecursion (Meets k t) edges → All (Meets k t) edges
+met k edges t h = All-from_recursion (Meets k t) edges h
+
+held : (k : Kind) (edges row : Bounds k) → AllByRecursion (Contains edges) row → All (Contains edges) row
+held k edges row h = All-from_recursion (Contains edges) row h
+
 five_meets : Solution ticks_kind (bounds_in_force ticks_kind 2 five_five) five
-five_meets = record { zero_first = refl; meets = (refl, (refl, (refl, (refl, tt)))) }
+five_meets = record { zero_first = refl; meets = met ticks_kind (bounds_in_force ticks_kind 2 five_five) five (refl, (refl, (refl, (refl, tt)))) }
+
+-- the second of the two bounds
+abbrev second : Bounds ticks_kind
+second = get_or five_five 1 before_itself ∷ []
 
 five_reached : Reached ticks_kind (bounds_in_force ticks_kind 2 five_five) 1 (tick (pos 5))
-five_reached = record { row = get_or five_five 1 before_itself ∷ []; walk = (refl, refl); held = ((1, omega arith, λ d. refl), tt); value = refl }
+five_reached = record { row = second; walk = (refl, refl); held = held ticks_kind (bounds_in_force ticks_kind 2 five_five) second ((1, omega arith, refl), tt); value = refl }
 
 abbrev stepped : ℕ → Exact ranked_kind
 stepped p = get_or (rank (pos 0) (pos 0) ∷ (rank (pos 0) (pos 1) ∷ (rank (pos 0) (pos 2) ∷ []))) p (rank (pos 0) (pos 0))
 
 stepped_meets : Solution ranked_kind (bounds_in_force ranked_kind 3 (steps ++ before_next ∷ [])) stepped
-stepped_meets = record { zero_first = refl; meets = (refl, (refl, (refl, (refl, (refl, (refl, tt)))))) }
+stepped_meets = record { zero_first = refl; meets = met ranked_kind (bounds_in_force ranked_kind 3 (steps ++ before_next ∷ [])) stepped (refl, (refl, (refl, (refl, (refl, (refl, tt)))))) }
 
 steps_meet : Solution ranked_kind (bounds_in_force ranked_kind 3 steps) stepped
-steps_meet = record { zero_first = refl; meets = (refl, (refl, (refl, (refl, (refl, tt))))) }
+steps_meet = record { zero_first = refl; meets = met ranked_kind (bounds_in_force ranked_kind 3 steps) stepped (refl, (refl, (refl, (refl, (refl, tt))))) }
 
 stepped_reached : Reached ranked_kind (bounds_in_force ranked_kind 3 steps) 2 (rank (pos 0) (pos 2))
-stepped_reached = record { row = steps; walk = (refl, (refl, refl)); held = ((0, omega arith, λ d. refl), ((1, omega arith, λ d. refl), tt)); value = refl }
+stepped_reached = record { row = steps; walk = (refl, (refl, refl)); held = held ranked_kind (bounds_in_force ranked_kind 3 steps) steps ((0, omega arith, refl), ((1, omega arith, refl), tt)); value = refl }
 
 pub worked : Worked
 worked = record {
@@ -39,12 +52,12 @@ worked = record {
   earliest = earliest_reached ticks_lawful (bounds_in_force ticks_kind 2 five_five) five five_meets 1 five_reached;
   assignment = five_meets;
   chain = record {
-    chain = record { start = 1; closed = (refl, (refl, refl)); apart = ((λ (e : 1 ≡ 0). omega arith, tt), (tt, tt)); below = refl };
-    held = ((0, omega arith, λ d. refl), ((1, omega arith, λ d. refl), tt));
+    chain = record { start = 1; closed = (refl, (refl, refl)); apart = (All-from_recursion (λ y. ¬ (1 ≡ y)) (0 ∷ []) (λ e. omega arith, tt), (All-nil (λ y. ¬ (0 ≡ y)), tt)); below = refl };
+    held = held ticks_kind (bounds_in_force ticks_kind 2 five_six) five_six ((0, omega arith, refl), ((1, omega arith, refl), tt));
   };
   rounds = record {
     inside = λ i h. omega arith;
-    held = λ i h. (0, omega arith, λ d. refl);
+    held = λ i h. (0, omega arith, refl);
     leaves = λ i h. refl;
     reaches = λ i h. refl;
     carried = λ i h. ap tick (sym (pos-+ℤ-pos i 1));

@@ -1,7 +1,7 @@
 -- The bounds in force hold a chain, or have earliest times. Assumes nothing.
-use Rattle.std.proofs.Common.{◌≡◌, ℕ, zero, suc, ◌+◌, ◌<◌, ◌⊎◌, [], ◌∷◌, ◌++◌, sym, refl, ap, ◌∙◌, subst, inl, inr, ⊎_elim, arith}
-use Rattle.std.specs.List.{ContainsAt as Has, AllByRecursion as All}
-use Rattle.std.proofs.ByRecursion.{all-has, All-push}
+use Rattle.std.proofs.Common.{◌≡◌, ℕ, zero, suc, ◌<◌, ◌⊎◌, [], ◌∷◌, ◌++◌, sym, refl, ap, ◌∙◌, subst, inl, inr, ⊎_elim, arith}
+use Rattle.std.specs.List.{All, Contains}
+use Rattle.std.proofs.lemmas.List.Elements.{All-contains, All-push, All-nil, All-cons}
 use Rattle.delays.specs.Kind.{Kind, Exact, Lawful}
 use Rattle.delays.proofs.TheoryLaws.{theory}
 use Rattle.network.specs.Bounds.{ExactBound, Bounds, floor_of, bounds_in_force, Inside}
@@ -19,25 +19,25 @@ use Rattle.network.proofs.Walking.{walk_bounds_below}
 
 module _ {k : Kind} (laws : Lawful k) where
   -- one bound more at the end of a walk from point 0
-  pub reached_over : (edges : Bounds k) (b : ExactBound k) (x : Exact k) → Has edges b → Reached k edges b.left x → Reached k edges b.right (carry k x b.delay)
+  pub reached_over : (edges : Bounds k) (b : ExactBound k) (x : Exact k) → Contains edges b → Reached k edges b.left x → Reached k edges b.right (carry k x b.delay)
   reached_over edges b x held r = record {
     row = r.row ++ b ∷ [];
     walk = walk_push r.row b 0 b.left r.walk refl;
-    held = All-push (Has edges) r.row b r.held held;
+    held = All-push (Contains edges) r.row b r.held held;
     value = ap (λ y. carry k y b.delay) r.value ∙ (sym ((theory laws).opposite_sum (sum_of k r.row) b.delay)
         ∙ ap k.opposite (ap (k.sum (sum_of k r.row)) (sym (laws.zero_adds_nothing b.delay)) ∙ sym (sum-append laws r.row (b ∷ []))));
   }
 
   -- zero is reached over the floor
-  pub reached_floor : (edges : Bounds k) (p : ℕ) → Has edges (floor_of k p) → Reached k edges p k.zero
+  pub reached_floor : (edges : Bounds k) (p : ℕ) → Contains edges (floor_of k p) → Reached k edges p k.zero
   reached_floor edges p held = record {
     row = floor_of k p ∷ [];
     walk = (refl, refl);
-    held = (held, tt);
+    held = All-cons (Contains edges) (floor_of k p) [] held (All-nil (Contains edges));
     value = sym (ap k.opposite (laws.zero_adds_nothing k.zero) ∙ (theory laws).opposite_zero);
   }
 
-  module _ (n : ℕ) (edges : Bounds k) (inside : All (Inside k n) edges) (floored : (p : ℕ) → p < n → Has edges (floor_of k p)) where
+  module _ (n : ℕ) (edges : Bounds k) (inside : All (Inside k n) edges) (floored : (p : ℕ) → p < n → Contains edges (floor_of k p)) where
     -- the best labels are reached where the old ones are
     reached_best : (old : ℕ → Exact k) → ((p : ℕ) → p < n → Reached k edges p (old p)) → (p : ℕ) → p < n → Reached k edges p (best laws old edges p)
     reached_best old reached p h = go (best_from laws old edges p)
@@ -46,7 +46,7 @@ module _ {k : Kind} (laws : Lawful k) where
         go (inl e) = subst (Reached k edges p) (sym e) (reached p h)
         go (inr c) =
             let b = c.over in
-            let left : b.left < n = (all-has (Inside k n) edges b inside c.held).left in
+            let left : b.left < n = (All-contains (Inside k n) edges b inside c.held).left in
             subst (λ q. Reached k edges q (best laws old edges p)) c.reaches
             (subst (Reached k edges b.right) (sym c.value) (reached_over edges b (old b.left) c.held (reached b.left left)))
 

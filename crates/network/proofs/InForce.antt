@@ -1,8 +1,8 @@
 -- The bounds in force by number: those of the book, and then the floors. Assumes nothing.
 use Rattle.std.proofs.Common.{◌≡◌, ℕ, ◌+◌, ◌-◌, ◌<◌, ◌≤◌, length, sym, refl, ap, ◌∙◌, subst, arith, length-append}
-use Rattle.std.specs.List.{ContainsAt as Has, AllByRecursion as All}
+use Rattle.std.specs.List.{All, Contains}
 use Rattle.std.proofs.lemmas.List.FromFn.{length-map-range_with_len, get_or-map-range_with_len}
-use Rattle.std.proofs.ByRecursion.{All-append, has_append_right, has_get_or}
+use Rattle.std.proofs.lemmas.List.Elements.{All-append, Contains-append_right, Contains-get_or}
 use Rattle.std.proofs.lemmas.List.{get_or_append_left, get_or-append_right}
 use Rattle.delays.specs.Kind.{Kind}
 use Rattle.network.specs.Bounds.{ExactBound, Bounds, floor_of, floors, Numbered, bounds_in_force, Inside}
@@ -26,11 +26,11 @@ force_floor k n book i past h =
     )
 
 -- the floor of each point below n is in force
-pub floor_held : (k : Kind) (n : ℕ) (book : Bounds k) (p : ℕ) → p < n → Has (bounds_in_force k n book) (floor_of k p)
+pub floor_held : (k : Kind) (n : ℕ) (book : Bounds k) (p : ℕ) → p < n → Contains (bounds_in_force k n book) (floor_of k p)
 floor_held k n book p h =
     let long : p < length (floors k n) = rw (length-map-range_with_len (floor_of k) 0 n) h in
-    has_append_right book (floors k n) (floor_of k p)
-    (subst (Has (floors k n)) (get_or-map-range_with_len (floor_of k) 0 n p p (floor_of k p) h (omega arith)) (has_get_or (floors k n) p (floor_of k p) long))
+    Contains-append_right book (floors k n) (floor_of k p)
+    (subst (Contains (floors k n)) (get_or-map-range_with_len (floor_of k) 0 n p p (floor_of k p) h (omega arith)) (Contains-get_or (floors k n) p (floor_of k p) long))
 
 -- where the points of the book are below n, so are those of the bounds in force
 pub force_inside : (k : Kind) (n : ℕ) (book : Bounds k) → 0 < n → All (Inside k n) book → All (Inside k n) (bounds_in_force k n book)

@@ -1,10 +1,10 @@
 -- Paths are short, so earliest times are near zero. Assumes nothing.
 use Rattle.std.proofs.Common.{◌*◌, ◌<◌, ◌≤◌, [], ◌∷◌, map, length, ap, mul-le-mul_right, suc-mul, arith}
-use lib.ListN.{length-map}
-use Rattle.std.specs.List.{ContainsAt as Has, AllByRecursion as All}
-use Rattle.std.proofs.ByRecursion.{all-has, All-map, All-weaker}
+use Rattle.std.proofs.lemmas.List.{length-map}
+use Rattle.std.specs.List.{All, Contains}
+use Rattle.std.proofs.lemmas.List.Elements.{All-contains, All-map, All-weaker, All-head, All-tail, All-cons}
 use Rattle.delays.specs.Kind.{Kind, Lawful}
-use Rattle.network.specs.Bounds.{Bounds, Inside}
+use Rattle.network.specs.Bounds.{ExactBound, Bounds, Inside}
 use Rattle.network.specs.Walks.{sum_of, stops, PathShort}
 use Rattle.network.specs.Earliest.{EarliestNear}
 use Rattle.network.proofs.Counting.{apart_length}
@@ -14,19 +14,25 @@ module _ {k : Kind} (laws : Lawful k) where
   pub path_short : PathShort k
   path_short n edges inside p q small row path =
       let rights : All (λ x. x < n) (map (λ b. b.right) row) =
-      All-map (λ x. x < n) (λ b. b.right) row (All-weaker (Has edges) (λ b. b.right < n) (λ b h. (all-has (Inside k n) edges b inside h).right) row path.held) in
-      let few : length (stops p row) ≤ n = apart_length n (stops p row) path.apart (small, rights) in
+      All-map (λ x. x < n) (λ b. b.right) row (All-weaker (Contains edges) (λ b. b.right < n) (λ b h. (All-contains (Inside k n) edges b inside h).right) row path.held) in
+      let few : length (stops p row) ≤ n = apart_length n (stops p row) path.apart (All-cons (λ x. x < n) p (map (λ b. b.right) row) small rights) in
       omega (arith, few, length-map row (λ b. b.right))
 
+  -- the delay is of a size of at most the greatest
+  abbrev IsSmall : ExactBound k → Type 0
+  IsSmall b = k.size b.delay ≤ k.greatest
+
   -- the size of a sum is at most the greatest for each bound
-  sum_size : (row : Bounds k) → All (λ b. k.size b.delay ≤ k.greatest) row → k.size (sum_of k row) ≤ length row * k.greatest
+  sum_size : (row : Bounds k) → All IsSmall row → k.size (sum_of k row) ≤ length row * k.greatest
   sum_size [] h = omega (arith, laws.size_zero)
-  sum_size (b ∷ bs) h = omega (arith, laws.size_sum b.delay (sum_of k bs), sum_size bs h.1, h.0, suc-mul (length bs) k.greatest)
+  sum_size (b ∷ bs) h =
+      let here : k.size b.delay ≤ k.greatest = All-head IsSmall b bs h in
+      omega (arith, laws.size_sum b.delay (sum_of k bs), sum_size bs (All-tail IsSmall b bs h), suc-mul (length bs) k.greatest)
 
   pub earliest_near : EarliestNear k
   earliest_near n edges inside small some p x e =
       let row = e.row in
       let short : length row < n = path_short n edges inside 0 p some row e.path in
       let few : length row ≤ n = omega arith in
-      let each = All-weaker (Has edges) (λ b. k.size b.delay ≤ k.greatest) (λ b h. all-has (λ b. k.size b.delay ≤ k.greatest) edges b small h) row e.path.held in
+      let each = All-weaker (Contains edges) IsSmall (λ b. All-contains IsSmall edges b small) row e.path.held in
       omega (arith, ap k.size e.value, laws.size_opposite (sum_of k row), sum_size row each, mul-le-mul_right k.greatest few)

@@ -1,7 +1,7 @@
 -- Relaxation by rounds, over bounds whose points are below n: it comes to rest, or goes on over a chain. Assumes nothing.
 use Rattle.std.proofs.Common.{◌≡◌, ℕ, cond, eqb, ◌⊎◌, [], ◌∷◌, refl, ◌∙◌, inl, inr, ⊎_elim, arith}
-use Rattle.std.specs.List.{ContainsAt as Has, AllByRecursion as All}
-use Rattle.std.proofs.ByRecursion.{All-weaker, has_append_right}
+use Rattle.std.specs.List.{All, Contains}
+use Rattle.std.proofs.lemmas.List.Elements.{All-weaker, Contains-append_right, All-nil, All-cons}
 use Rattle.std.proofs.lemmas.Bool.{cases_eq, cases_Bool, cond-true, cond-false, eq-eqb, ne_eqb}
 use Rattle.delays.specs.Kind.{Kind, Exact, Lawful}
 use Rattle.network.specs.Bounds.{ExactBound, Bounds}
@@ -54,16 +54,17 @@ module _ {k : Kind} (laws : Lawful k) where
 
     -- and is at least what each bound carries to it
     pub best_carried : (bs : Bounds k) → All (λ b. Le k (brings b) (best bs b.right)) bs
-    best_carried [] = tt
-    best_carried (b ∷ bs) = (
-      rw (best_at b bs b.right refl) (greater_left (brings b) (best bs b.right)),
-      All-weaker _ _ (λ x h. laws.transitive _ _ _ h (best_more b bs x.right)) bs (best_carried bs),
-    )
+    best_carried [] = All-nil (λ x. Le k (brings x) (best [] x.right))
+    best_carried (b ∷ bs) =
+        All-cons (λ x. Le k (brings x) (best (b ∷ bs) x.right)) b bs
+        (rw (best_at b bs b.right refl) (greater_left (brings b) (best bs b.right)))
+        (All-weaker (λ x. Le k (brings x) (best bs x.right)) (λ x. Le k (brings x) (best (b ∷ bs) x.right))
+        (λ x h. laws.transitive _ _ _ h (best_more b bs x.right)) bs (best_carried bs))
 
     -- where a new label came from
     pub record Came (bs : Bounds k) (p : ℕ) : Type 0 where
       pub over : ExactBound k
-      pub held : Has bs over
+      pub held : Contains bs over
       pub reaches : over.right ≡ p
       pub value : best bs p ≡ brings over
 
@@ -74,11 +75,11 @@ module _ {k : Kind} (laws : Lawful k) where
       where
         later : best (b ∷ bs) p ≡ best bs p → (best bs p ≡ old p) ⊎ Came bs p → (best (b ∷ bs) p ≡ old p) ⊎ Came (b ∷ bs) p
         later e (inl o) = inl (e ∙ o)
-        later e (inr c) = inr (record { over = c.over; held = has_append_right (b ∷ []) bs c.over c.held; reaches = c.reaches; value = e ∙ c.value })
+        later e (inr c) = inr (record { over = c.over; held = Contains-append_right (b ∷ []) bs c.over c.held; reaches = c.reaches; value = e ∙ c.value })
 
         go : (b.right ≡ p) ⊎ (b.right ≡ p → ⊥)
             → ((greater k (brings b) (best bs p) ≡ best bs p) × Le k (brings b) (best bs p)) ⊎ ((greater k (brings b) (best bs p) ≡ brings b) × Lt k (best bs p) (brings b))
             → (best bs p ≡ old p) ⊎ Came bs p → (best (b ∷ bs) p ≡ old p) ⊎ Came (b ∷ bs) p
         go (inr ne) g rest = later (best_off b bs p ne) rest
         go (inl e) (inl g) rest = later (best_at b bs p e ∙ g.0) rest
-        go (inl e) (inr g) rest = inr (record { over = b; held = (0, omega arith, λ d. refl); reaches = e; value = best_at b bs p e ∙ g.0 })
+        go (inl e) (inr g) rest = inr (record { over = b; held = (0, omega arith, refl); reaches = e; value = best_at b bs p e ∙ g.0 })

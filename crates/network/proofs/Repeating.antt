@@ -1,7 +1,7 @@
 -- Rounds that go on raise a label over a chain: the bounds up to the first repeat of a point. Assumes nothing.
 use Rattle.std.proofs.Common.{◌≡◌, ℕ, zero, suc, ◌+◌, ◌-◌, ◌<◌, ◌≤◌, map, sym, ap, ◌∙◌, arith}
-use mathlib.Core.List.{map-map}
-use Rattle.std.specs.List.{range_with_len, ContainsAt as Has}
+use Rattle.std.proofs.lemmas.Simd.{map-map}
+use Rattle.std.specs.List.{Contains, range_with_len}
 use Rattle.delays.specs.Kind.{Kind, Exact, Lawful}
 use Rattle.network.specs.Bounds.{ExactBound, Bounds}
 use Rattle.network.specs.Assignments.{Lt}
@@ -46,7 +46,7 @@ module _ {k : Kind} (laws : Lawful k) {edges : Bounds k} {n m : ℕ} {point : �
                 (apart_counting (λ a. (via a).left) i (j - i) (λ a b s t u e. f.apart a b t (omega arith) (sym (r.leaves a (omega arith)) ∙ e ∙ r.leaves b (omega arith))));
             below = below_zero laws (label j) (sum_of k row) lower;
           };
-          held = all_counting (Has edges) via i (j - i) (λ a s u. r.held a (omega arith));
+          held = all_counting (Contains edges) via i (j - i) (λ a s u. r.held a (omega arith));
         };
       }
 

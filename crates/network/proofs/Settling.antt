@@ -1,7 +1,7 @@
 -- Labels round by round: after n rounds they meet the bounds, or the bounds hold a chain. Assumes nothing.
 use Rattle.std.proofs.Common.{◌≡◌, ℕ, zero, suc, ◌+◌, ◌-◌, ◌<◌, ◌≤◌, Bool, true, false, cond, ltb, ◌⊎◌, sym, refl, ap, ◌∙◌, subst, inl, inr, ⊎_elim, arith}
-use Rattle.std.specs.List.{ContainsAt as Has, AllByRecursion as All}
-use Rattle.std.proofs.ByRecursion.{All-weaker, all-has, all_has_itself}
+use Rattle.std.specs.List.{All, Contains}
+use Rattle.std.proofs.lemmas.List.Elements.{All-weaker, All-contains, All-contains_itself}
 use Rattle.std.proofs.lemmas.Bool.{cases_Bool, cases_lt, cond-true, cond-false, lt-ltb, le-ltb}
 use Rattle.delays.specs.Kind.{Kind, Exact, Lawful}
 use Rattle.delays.proofs.TheoryLaws.{theory}
@@ -61,7 +61,7 @@ module _ {k : Kind} (laws : Lawful k) (n : ℕ) (edges : Bounds k) (inside : All
   -- the bound over which it came
   record Raised (j p : ℕ) : Type 0 where
     over : ExactBound k
-    held : Has edges over
+    held : Contains edges over
     reaches : over.right ≡ p
     value : label (suc j) p ≡ carry k (label j over.left) over.delay
 
@@ -74,9 +74,9 @@ module _ {k : Kind} (laws : Lawful k) (n : ℕ) (edges : Bounds k) (inside : All
       go (inr c) = record { over = c.over; held = c.held; reaches = c.reaches; value = c.value }
 
   -- what a bound carries after j rounds is at most the label of its right point after j + 1
-  carried_at : (j : ℕ) (b : ExactBound k) → Has edges b → Le k (carry k (label j b.left) b.delay) (label (suc j) b.right)
+  carried_at : (j : ℕ) (b : ExactBound k) → Contains edges b → Le k (carry k (label j b.left) b.delay) (label (suc j) b.right)
   unfolding label
-  carried_at j b held = all-has (λ x. Le k (carry k (label j x.left) x.delay) (best laws (label j) edges x.right)) edges b (best_carried laws (label j) edges) held
+  carried_at j b held = All-contains (λ x. Le k (carry k (label j x.left) x.delay) (best laws (label j) edges x.right)) edges b (best_carried laws (label j) edges) held
 
   -- The bound that raised p in round j + 2 carried no more than p's label already in round j + 1, unless its left point rose in that round.
   left_rises : (j p : ℕ) → Rises (suc j) p → (r : Raised (suc j) p) → Rises j r.over.left
@@ -176,8 +176,8 @@ module _ {k : Kind} (laws : Lawful k) (n : ℕ) (edges : Bounds k) (inside : All
       last = point_new (suc j) (omega arith);
     }
 
-  left_inside : (b : ExactBound k) → Has edges b → b.left < n
-  left_inside b held = (all-has (Inside k n) edges b inside held).left
+  left_inside : (b : ExactBound k) → Contains edges b → b.left < n
+  left_inside b held = (All-contains (Inside k n) edges b inside held).left
 
   -- a point that rises in round j + 1 is traced back to the first round
   traces : (j p : ℕ) → p < n → Rises j p → Trace (suc j) p
@@ -206,13 +206,13 @@ module _ {k : Kind} (laws : Lawful k) (n : ℕ) (edges : Bounds k) (inside : All
   settled p = carry k (label n p) (label n 0)
 
   -- labels that the next round leaves alone meet each bound, and so do they less that of point 0
-  rest_meets : ((p : ℕ) → p < n → Le k (label (suc n) p) (label n p)) → (b : ExactBound k) → Has edges b → Meets k settled b
+  rest_meets : ((p : ℕ) → p < n → Le k (label (suc n) p) (label n p)) → (b : ExactBound k) → Contains edges b → Meets k settled b
   unfolding settled
   rest_meets still b held =
       let x = label n b.left in
       let y = label n b.right in
       let z = k.opposite (label n 0) in
-      let right : b.right < n = (all-has (Inside k n) edges b inside held).right in
+      let right : b.right < n = (All-contains (Inside k n) edges b inside held).right in
       let met : Le k x (k.sum y b.delay) = (theory laws).move_left x y b.delay (laws.transitive _ _ _ (carried_at n b held) (still b.right right)) in
       let moved : k.sum (k.sum y b.delay) z ≡ k.sum (k.sum y z) b.delay =
       laws.assoc y b.delay z ∙ (ap (k.sum y) (laws.comm b.delay z) ∙ sym (laws.assoc y z b.delay)) in
@@ -220,7 +220,7 @@ module _ {k : Kind} (laws : Lawful k) (n : ℕ) (edges : Bounds k) (inside : All
 
   pub rest_solves : ((p : ℕ) → p < n → Le k (label (suc n) p) (label n p)) → Solution k edges settled
   unfolding settled
-  rest_solves still = record { zero_first = laws.cancels (label n 0); meets = All-weaker (Has edges) (Meets k settled) (rest_meets still) edges (all_has_itself edges) }
+  rest_solves still = record { zero_first = laws.cancels (label n 0); meets = All-weaker (Contains edges) (Meets k settled) (rest_meets still) edges (All-contains_itself edges) }
 
   -- After n rounds the labels rest, or some point still rises. Then it has risen in each round, and more rounds than points were traced.
   pub chain_or_rest : ((row : Bounds k) × ChainIn k edges row) ⊎ ((p : ℕ) → p < n → Le k (label (suc n) p) (label n p))

@@ -1,6 +1,7 @@
 -- Walks cut to paths, and the earliest times. Assumes nothing.
 use Rattle.std.proofs.Common.{◌≡◌, ℕ, ◌⊎◌, List, [], ◌∷◌, ◌++◌, sym, refl, ap, ◌∙◌, subst, inl, inr}
-use Rattle.std.specs.List.{ContainsAt as Has, AllByRecursion as All}
+use Rattle.std.specs.List.{All, Contains}
+use Rattle.std.proofs.lemmas.List.Elements.{All-head, All-tail, All-nil, All-cons}
 use Rattle.std.proofs.lemmas.Bool.{cases_eq}
 use Rattle.delays.specs.Kind.{Kind, Exact, Lawful}
 use Rattle.network.specs.Bounds.{ExactBound, Bounds}
@@ -11,12 +12,12 @@ use Rattle.network.proofs.Orders.{zero_left, sum_orders, no_less, opposites_reve
 use Rattle.network.proofs.Walking.{walk_bounds_below, closed_at_least}
 
 pub all_front : {A : Type 0} (P : A → Type 0) (xs ys : List A) → All P (xs ++ ys) → All P xs
-all_front P [] ys h = tt
-all_front P (x ∷ xs) ys h = (h.0, all_front P xs ys h.1)
+all_front P [] ys h = All-nil P
+all_front P (x ∷ xs) ys h = All-cons P x xs (All-head P x (xs ++ ys) h) (all_front P xs ys (All-tail P x (xs ++ ys) h))
 
 pub all_back : {A : Type 0} (P : A → Type 0) (xs ys : List A) → All P (xs ++ ys) → All P ys
 all_back P [] ys h = h
-all_back P (x ∷ xs) ys h = all_back P xs ys h.1
+all_back P (x ∷ xs) ys h = all_back P xs ys (All-tail P x (xs ++ ys) h)
 
 -- a walk from r to q that comes to p, taken apart there
 record Parted {k : Kind} (p r q : ℕ) (row : Bounds k) : Type 0 where
@@ -35,8 +36,8 @@ seek : {k : Kind} (p r q : ℕ) (row : Bounds k) → Walk r row q → Parted p r
 seek {k} p r q [] w = go (cases_eq p r)
   where
     go : (p ≡ r) ⊎ (p ≡ r → ⊥) → Parted {k = k} p r q [] ⊎ Off {k = k} p r []
-    go (inl e) = inl (record { front = []; back = []; split = refl; there = sym e; onward = e ∙ w; apart = λ a. (tt, tt) })
-    go (inr ne) = inr (ne, tt)
+    go (inl e) = inl (record { front = []; back = []; split = refl; there = sym e; onward = e ∙ w; apart = λ a. (All-nil (λ y. ¬ (p ≡ y)), tt) })
+    go (inr ne) = inr (All-cons (λ y. ¬ (p ≡ y)) r [] ne (All-nil (λ y. ¬ (p ≡ y))))
 seek {k} p r q (b ∷ bs) w = go (cases_eq p r) (seek p b.right q bs w.1)
   where
     go : (p ≡ r) ⊎ (p ≡ r → ⊥) → Parted p b.right q bs ⊎ Off p b.right bs → Parted p r q (b ∷ bs) ⊎ Off p r (b ∷ bs)
@@ -56,7 +57,7 @@ seek {k} p r q (b ∷ bs) w = go (cases_eq p r) (seek p b.right q bs w.1)
       onward = c.onward;
       apart = λ a. c.apart a.1;
     })
-    go (inr ne) (inr off) = inr (ne, off)
+    go (inr ne) (inr off) = inr (All-cons (λ y. ¬ (p ≡ y)) r (stops b.right bs) ne off)
 
 module _ {k : Kind} (laws : Lawful k) where
   pub sum-append : (xs ys : Bounds k) → sum_of k (xs ++ ys) ≡ k.sum (sum_of k xs) (sum_of k ys)
@@ -66,32 +67,32 @@ module _ {k : Kind} (laws : Lawful k) where
   module _ (edges : Bounds k) (t : ℕ → Exact k) (s : Solution k edges t) where
     -- A bound goes in front of a path. Where the path comes back to the bound's left point, the closed part up to there is dropped:
     -- its sum is not below zero, since the bounds can be met.
-    lead : (p q : ℕ) (b : ExactBound k) (bs : Bounds k) → b.left ≡ p → Has edges b → (r : Shorter k edges b.right q bs)
+    lead : (p q : ℕ) (b : ExactBound k) (bs : Bounds k) → b.left ≡ p → Contains edges b → (r : Shorter k edges b.right q bs)
         → Parted p b.right q r.cut ⊎ Off p b.right r.cut → Shorter k edges p q (b ∷ bs)
     lead p q b bs e f r (inr off) = record {
       cut = b ∷ r.cut;
-      path = record { walk = (e, r.path.walk); apart = (off, r.path.apart); held = (f, r.path.held) };
+      path = record { walk = (e, r.path.walk); apart = (off, r.path.apart); held = All-cons (Contains edges) b r.cut f r.path.held };
       less = sum_orders laws b.delay _ _ r.less;
     }
     lead p q b bs e f r (inl c) =
-        let parts : All (Has edges) (c.front ++ c.back) = rw c.split at r.path.held in
+        let parts : All (Contains edges) (c.front ++ c.back) = rw c.split at r.path.held in
         let loop = b ∷ c.front in
-        let free : Le k k.zero (sum_of k loop) = closed_at_least laws edges t s p loop (e, c.there) (f, all_front (Has edges) c.front c.back parts) in
+        let free : Le k k.zero (sum_of k loop) = closed_at_least laws edges t s p loop (e, c.there) (All-cons (Contains edges) b c.front f (all_front (Contains edges) c.front c.back parts)) in
         let whole : sum_of k (b ∷ r.cut) ≡ k.sum (sum_of k loop) (sum_of k c.back) = ap (λ l. sum_of k (b ∷ l)) c.split ∙ sum-append loop c.back in
         record {
           cut = c.back;
-          path = record { walk = c.onward; apart = c.apart r.path.apart; held = all_back (Has edges) c.front c.back parts };
+          path = record { walk = c.onward; apart = c.apart r.path.apart; held = all_back (Contains edges) c.front c.back parts };
           less = laws.transitive _ _ _ (rw whole (no_less laws (sum_of k loop) (sum_of k c.back) free)) (sum_orders laws b.delay _ _ r.less);
         }
 
-    shortened : (p q : ℕ) (row : Bounds k) → Walk p row q → All (Has edges) row → Shorter k edges p q row
-    shortened p q [] w h = record { cut = []; path = record { walk = w; apart = (tt, tt); held = tt }; less = laws.reflexive k.zero }
+    shortened : (p q : ℕ) (row : Bounds k) → Walk p row q → All (Contains edges) row → Shorter k edges p q row
+    shortened p q [] w h = record { cut = []; path = record { walk = w; apart = (All-nil (λ y. ¬ (p ≡ y)), tt); held = All-nil (Contains edges) }; less = laws.reflexive k.zero }
     shortened p q (b ∷ bs) w h =
-        let r = shortened b.right q bs w.1 h.1 in
-        lead p q b bs w.0 h.0 r (seek p b.right q r.cut r.path.walk)
+        let r = shortened b.right q bs w.1 (All-tail (Contains edges) b bs h) in
+        lead p q b bs w.0 (All-head (Contains edges) b bs h) r (seek p b.right q r.cut r.path.walk)
 
     -- the sum of a walk that gives the time of p is at most that of any walk to p
-    under : (p : ℕ) (r : Reached k edges p (t p)) (other : Bounds k) → Walk 0 other p → All (Has edges) other → Le k (sum_of k r.row) (sum_of k other)
+    under : (p : ℕ) (r : Reached k edges p (t p)) (other : Bounds k) → Walk 0 other p → All (Contains edges) other → Le k (sum_of k r.row) (sum_of k other)
     under p r other w h = opposites_reverse laws (sum_of k other) (sum_of k r.row) (rw r.value at (walk_bounds_below laws edges t s p other w h))
 
   pub walk_shortens : WalkShortens k

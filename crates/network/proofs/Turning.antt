@@ -1,8 +1,8 @@
 -- A chain begun elsewhere, and the chain that a posted bound closes. Assumes nothing.
-use Rattle.std.proofs.Common.{◌≡◌, ℕ, ◌⊎◌, List, [], ◌∷◌, ◌++◌, sym, refl, ap, ◌∙◌, inl, inr, append_assoc, append-nil}
-use mathlib.Core.List.{map-append}
-use Rattle.std.specs.List.{ContainsAt as Has, AllByRecursion as All}
-use Rattle.std.proofs.ByRecursion.{All-push, all-has, All-weaker, All-append, all_has_itself, has_append_left, has_append_right}
+use Rattle.std.proofs.Common.{◌≡◌, ℕ, ◌⊎◌, List, [], ◌∷◌, ◌++◌, sym, refl, ap, ◌∙◌, inl, inr, ⊎_elim, append_assoc, append-nil}
+use Rattle.std.proofs.lemmas.List.{map-append}
+use Rattle.std.specs.List.{All, Contains}
+use Rattle.std.proofs.lemmas.List.Elements.{All-nil, All-cons, All-head, All-tail, All-push, Contains-append_left, Contains-append_right, Contains-push_cases, Contains-append_cases}
 use Rattle.delays.specs.Kind.{Kind, Exact, Lawful}
 use Rattle.network.specs.Bounds.{ExactBound, Bounds, floors, bounds_in_force}
 use Rattle.network.specs.Assignments.{Solution}
@@ -16,8 +16,8 @@ walk_push [] x p q w e = (e ∙ sym w, refl)
 walk_push (b ∷ bs) x p q w e = (w.0, walk_push bs x b.right q w.1 e)
 
 apart_push : (xs : List ℕ) (x : ℕ) → All (λ y. ¬ (x ≡ y)) xs → Apart xs → Apart (xs ++ x ∷ [])
-apart_push [] x h a = (tt, tt)
-apart_push (y ∷ ys) x h a = (All-push (λ z. ¬ (y ≡ z)) ys x a.0 (λ e. h.0 (sym e)), apart_push ys x h.1 a.1)
+apart_push [] x h a = (All-nil (λ y. ¬ (x ≡ y)), tt)
+apart_push (y ∷ ys) x h a = (All-push (λ z. ¬ (y ≡ z)) ys x a.0 (λ e. All-head (λ z. ¬ (x ≡ z)) y ys h (sym e)), apart_push ys x (All-tail (λ z. ¬ (x ≡ z)) y ys h) a.1)
 
 module _ {k : Kind} (laws : Lawful k) where
   -- the first bound goes to the end
@@ -29,7 +29,7 @@ module _ {k : Kind} (laws : Lawful k) where
       apart = rw (map-append (λ b. b.left) xs (x ∷ [])) (apart_push (lefts xs) x.left chain.apart.0 chain.apart.1);
       below = rw (sum-append laws xs (x ∷ []), laws.zero_adds_nothing x.delay, laws.comm (sum_of k xs) x.delay) chain.below;
     };
-    held = All-push (Has edges) xs x c.held.1 c.held.0;
+    held = All-push (Contains edges) xs x (All-tail (Contains edges) x xs c.held) (All-head (Contains edges) x xs c.held);
   }
 
   pub chain_turns : ChainTurns k
@@ -42,14 +42,14 @@ module _ {k : Kind} (laws : Lawful k) where
   abbrev Split : ExactBound k → Bounds k → Type 0
   Split b row = (front : Bounds k) × (back : Bounds k) × (row ≡ front ++ (b ∷ back))
 
-  module _ (old new : Bounds k) (b : ExactBound k) (either : (x : ExactBound k) → Has new x → Has old x ⊎ (b ≡ x)) where
+  module _ (old new : Bounds k) (b : ExactBound k) (either : (x : ExactBound k) → Contains new x → Contains old x ⊎ (b ≡ x)) where
     -- a row over the new bounds is one over the old ones, or has b
-    old_or_new : (row : Bounds k) → All (Has new) row → All (Has old) row ⊎ Split b row
-    old_or_new [] h = inl tt
-    old_or_new (x ∷ xs) h = go (either x h.0) (old_or_new xs h.1)
+    old_or_new : (row : Bounds k) → All (Contains new) row → All (Contains old) row ⊎ Split b row
+    old_or_new [] h = inl (All-nil (Contains old))
+    old_or_new (x ∷ xs) h = go (either x (All-head (Contains new) x xs h)) (old_or_new xs (All-tail (Contains new) x xs h))
       where
-        go : Has old x ⊎ (b ≡ x) → All (Has old) xs ⊎ Split b xs → All (Has old) (x ∷ xs) ⊎ Split b (x ∷ xs)
-        go (inl f) (inl a) = inl (f, a)
+        go : Contains old x ⊎ (b ≡ x) → All (Contains old) xs ⊎ Split b xs → All (Contains old) (x ∷ xs) ⊎ Split b (x ∷ xs)
+        go (inl f) (inl a) = inl (All-cons (Contains old) x xs f a)
         go (inl f) (inr s) = inr (x ∷ s.0, s.1, ap {B = Bounds k} (λ l. x ∷ l) s.2)
         go (inr e) d = inr ([], xs, ap {B = Bounds k} (λ y. y ∷ xs) (sym e))
 
@@ -57,17 +57,15 @@ module _ {k : Kind} (laws : Lawful k) where
     pub from_new : (t : ℕ → Exact k) → Solution k old t → (row : Bounds k) → ChainIn k new row → ChainFrom k new b row
     from_new t s row c = go (old_or_new row c.held)
       where
-        go : All (Has old) row ⊎ Split b row → ChainFrom k new b row
+        go : All (Contains old) row ⊎ Split b row → ChainFrom k new b row
         go (inl a) = absurd (chain_refutes laws old row (record { chain = c.chain; held = a }) t s)
         go (inr p) = record { front = p.0; back = p.1; split = p.2; turned = chain_turns new p.0 (b ∷ p.1) (rw p.2 at c) }
 
   -- a bound in force after b was posted was in force before, or is b
-  pub posted_either : (n : ℕ) (book : Bounds k) (b x : ExactBound k) → Has (bounds_in_force k n (book ++ b ∷ [])) x → Has (bounds_in_force k n book) x ⊎ (b ≡ x)
+  pub posted_either : (n : ℕ) (book : Bounds k) (b x : ExactBound k) → Contains (bounds_in_force k n (book ++ b ∷ [])) x → Contains (bounds_in_force k n book) x ⊎ (b ≡ x)
   posted_either n book b x has =
-      all-has (λ y. Has (bounds_in_force k n book) y ⊎ (b ≡ y)) (bounds_in_force k n (book ++ b ∷ [])) x
-      (All-append _ (book ++ b ∷ []) (floors k n)
-      (All-push _ book b (All-weaker (Has book) _ (λ y h. inl (has_append_left book (floors k n) y h)) book (all_has_itself book)) (inr refl))
-      (All-weaker (Has (floors k n)) _ (λ y h. inl (has_append_right book (floors k n) y h)) (floors k n) (all_has_itself (floors k n)))) has
+      ⊎_elim (λ h. ⊎_elim (λ old. inl (Contains-append_left book (floors k n) x old)) (λ new. inr new) (Contains-push_cases book b x h))
+      (λ h. inl (Contains-append_right book (floors k n) x h)) (Contains-append_cases (book ++ b ∷ []) (floors k n) x has)
 
   pub chain_from_posted : ChainFromPosted k
   chain_from_posted n book b t s row c = from_new (bounds_in_force k n book) (bounds_in_force k n (book ++ b ∷ [])) b (posted_either n book b) t s row c

@@ -1,7 +1,7 @@
 -- Walks bound the times of assignments, so a chain refutes every assignment. Assumes nothing.
 use Rattle.std.proofs.Common.{ℕ, [], ◌∷◌}
-use Rattle.std.specs.List.{ContainsAt as Has, AllByRecursion as All}
-use Rattle.std.proofs.ByRecursion.{All-weaker, all-has}
+use Rattle.std.specs.List.{All, Contains}
+use Rattle.std.proofs.lemmas.List.Elements.{All-weaker, All-contains, All-head, All-tail}
 use Rattle.delays.specs.Kind.{Kind, Exact, Lawful}
 use Rattle.network.specs.Bounds.{Bounds}
 use Rattle.network.specs.Assignments.{Le, Meets, Solution}
@@ -10,16 +10,16 @@ use Rattle.network.specs.Chains.{ChainRefutes}
 use Rattle.network.proofs.Orders.{not_both, step, opposite_at_most, zero_at_most}
 
 -- bounds of a list are met by what meets the list
-pub held_met : {k : Kind} (edges : Bounds k) (t : ℕ → Exact k) → Solution k edges t → (row : Bounds k) → All (Has edges) row → All (Meets k t) row
-held_met {k} edges t s row held = All-weaker (Has edges) (Meets k t) (λ b. all-has (Meets k t) edges b s.meets) row held
+pub held_met : {k : Kind} (edges : Bounds k) (t : ℕ → Exact k) → Solution k edges t → (row : Bounds k) → All (Contains edges) row → All (Meets k t) row
+held_met {k} edges t s row held = All-weaker (Contains edges) (Meets k t) (λ b. All-contains (Meets k t) edges b s.meets) row held
 
 module _ {k : Kind} (laws : Lawful k) where
-  -- Each bound lets the time of its left point exceed that of its right point by its delay at most; along a walk these add up.
+  -- All bound lets the time of its left point exceed that of its right point by its delay at most; along a walk these add up.
   along : (t : ℕ → Exact k) (row : Bounds k) (p q : ℕ) → Walk p row q → All (Meets k t) row → Le k (t p) (k.sum (t q) (sum_of k row))
   along t [] p q e met = rw (e, laws.zero_adds_nothing (t q)) (laws.reflexive (t q))
   along t (b ∷ bs) p q w met =
-      let first : Le k (t p) (k.sum (t b.right) b.delay) = rw w.0 at met.0 in
-      step laws (t p) (t b.right) (t q) b.delay (sum_of k bs) first (along t bs b.right q w.1 met.1)
+      let first : Le k (t p) (k.sum (t b.right) b.delay) = rw w.0 at (All-head (Meets k t) b bs met) in
+      step laws (t p) (t b.right) (t q) b.delay (sum_of k bs) first (along t bs b.right q w.1 (All-tail (Meets k t) b bs met))
 
   pub walk_bounds : WalkBounds k
   walk_bounds edges t s p q row w held = along t row p q w (held_met edges t s row held)
@@ -29,7 +29,7 @@ module _ {k : Kind} (laws : Lawful k) where
 
   -- a closed walk over bounds that can be met has no sum below zero
   pub closed_at_least : (edges : Bounds k) (t : ℕ → Exact k) → Solution k edges t
-      → (p : ℕ) (row : Bounds k) → Walk p row p → All (Has edges) row → Le k k.zero (sum_of k row)
+      → (p : ℕ) (row : Bounds k) → Walk p row p → All (Contains edges) row → Le k k.zero (sum_of k row)
   closed_at_least edges t s p row w held = zero_at_most laws (t p) (sum_of k row) (walk_bounds edges t s p p row w held)
 
   pub chain_refutes : ChainRefutes k

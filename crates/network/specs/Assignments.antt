@@ -1,6 +1,5 @@
 -- Assignments of times to points, and the bounds that they meet. Assumes nothing.
-use Rattle.std.specs.Prelude.{◌≡◌, ℕ, true, false}
-use Rattle.std.specs.List.{AllByRecursion as All}
+use Rattle.std.specs.Prelude.{◌≡◌, ℕ, true, false, All}
 use Rattle.delays.specs.Kind.{Kind, Exact}
 use Rattle.network.specs.Bounds.{ExactBound, Bounds}
 

@@ -1,6 +1,5 @@
 -- Chains: rows of bounds that no assignment meets. Assumes nothing.
-use Rattle.std.specs.Prelude.{◌≡◌, ℕ, [], ◌∷◌, ◌++◌}
-use Rattle.std.specs.List.{ContainsAt as Has, AllByRecursion as All}
+use Rattle.std.specs.Prelude.{◌≡◌, ℕ, [], ◌∷◌, ◌++◌, All, Contains}
 use Rattle.delays.specs.Kind.{Kind, Exact}
 use Rattle.network.specs.Bounds.{ExactBound, Bounds, bounds_in_force}
 use Rattle.network.specs.Assignments.{Lt, Solution}
@@ -17,7 +16,7 @@ pub record Chain (k : Kind) (row : Bounds k) : Type 0 where
 -- a chain that the list holds: each of its bounds is in the list
 pub record ChainIn (k : Kind) (edges row : Bounds k) : Type 0 where
   pub chain : Chain k row
-  pub held : All (Has edges) row
+  pub held : All (Contains edges) row
 
 -- the row holds the bound, and turned so that it begins with the bound it is a chain that the list holds
 pub record ChainFrom (k : Kind) (edges : Bounds k) (b : ExactBound k) (row : Bounds k) : Type 0 where

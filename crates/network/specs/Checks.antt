@@ -1,6 +1,5 @@
 -- What the checks of times, of chains and of walks answer. Assumes nothing.
-use Rattle.std.specs.Prelude.{◌≡◌, ℕ, ◌<◌, ◌≤◌, Bool, List, length, take, Some, None, Ok, Err, Decides, Option, Result, slice_index_or}
-use Rattle.std.specs.List.{AllByRecursion as All}
+use Rattle.std.specs.Prelude.{◌≡◌, ℕ, ◌<◌, ◌≤◌, Bool, List, length, take, Some, None, Ok, Err, Decides, Option, Result, slice_index_or, All}
 use Rattle.delays.specs.Kind.{Kind, Exact, Within}
 use Rattle.network.specs.declared.edge.Edge.{Edge}
 use Rattle.network.specs.declared.times.Mismatch.{Mismatch}

@@ -1,6 +1,5 @@
 -- When bounds can be met: exactly when they hold no chain. Assumes nothing.
-use Rattle.std.specs.Prelude.{ℕ, ◌<◌, ◌⊎◌}
-use Rattle.std.specs.List.{AllByRecursion as All}
+use Rattle.std.specs.Prelude.{ℕ, ◌<◌, ◌⊎◌, All}
 use Rattle.delays.specs.Kind.{Kind, Exact}
 use Rattle.network.specs.Bounds.{Bounds, bounds_in_force, Inside}
 use Rattle.network.specs.Assignments.{Solution}

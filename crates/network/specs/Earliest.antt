@@ -1,6 +1,5 @@
 -- Earliest times. Assumes nothing.
-use Rattle.std.specs.Prelude.{◌≡◌, ℕ, ◌*◌, ◌<◌, ◌≤◌}
-use Rattle.std.specs.List.{ContainsAt as Has, AllByRecursion as All}
+use Rattle.std.specs.Prelude.{◌≡◌, ℕ, ◌*◌, ◌<◌, ◌≤◌, All, Contains}
 use Rattle.delays.specs.Kind.{Kind, Exact}
 use Rattle.network.specs.Bounds.{Bounds, Inside}
 use Rattle.network.specs.Assignments.{Le, Solution}
@@ -17,7 +16,7 @@ pub record Earliest (k : Kind) (edges : Bounds k) (p : ℕ) (x : Exact k) : Type
 pub record Reached (k : Kind) (edges : Bounds k) (p : ℕ) (x : Exact k) : Type 0 where
   pub row : Bounds k
   pub walk : Walk 0 row p
-  pub held : All (Has edges) row
+  pub held : All (Contains edges) row
   pub value : x ≡ k.opposite (sum_of k row)
 
 -- The theorems.

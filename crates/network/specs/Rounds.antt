@@ -1,6 +1,6 @@
 -- Relaxation by rounds: what a point that still rises after many rounds shows. Assumes nothing.
-use Rattle.std.specs.Prelude.{◌≡◌, ℕ, ◌+◌, ◌-◌, ◌<◌, ◌≤◌, map}
-use Rattle.std.specs.List.{range_with_len, ContainsAt as Has}
+use Rattle.std.specs.Prelude.{◌≡◌, ℕ, ◌+◌, ◌-◌, ◌<◌, ◌≤◌, map, Contains}
+use Rattle.std.specs.List.{range_with_len}
 use Rattle.delays.specs.Kind.{Kind, Exact}
 use Rattle.network.specs.Bounds.{ExactBound, Bounds}
 use Rattle.network.specs.Assignments.{Lt}
@@ -14,7 +14,7 @@ carry k x d = k.sum x (k.opposite d)
 -- The labels of one point rise from round to round.
 pub record Traced (k : Kind) (edges : Bounds k) (n m : ℕ) (point : ℕ → ℕ) (label : ℕ → Exact k) (via : ℕ → ExactBound k) : Type 0 where
   pub inside : (i : ℕ) → i ≤ m → point i < n
-  pub held : (i : ℕ) → i < m → Has edges (via i)
+  pub held : (i : ℕ) → i < m → Contains edges (via i)
   pub leaves : (i : ℕ) → i < m → (via i).left ≡ point i
   pub reaches : (i : ℕ) → i < m → (via i).right ≡ point (i + 1)
   pub carried : (i : ℕ) → i < m → label (i + 1) ≡ carry k (label i) (via i).delay

@@ -1,6 +1,5 @@
 -- Walks over bounds, their sums, and paths. Assumes nothing.
-use Rattle.std.specs.Prelude.{◌≡◌, ℕ, ◌<◌, List, [], ◌∷◌, map, length}
-use Rattle.std.specs.List.{ContainsAt as Has, AllByRecursion as All}
+use Rattle.std.specs.Prelude.{◌≡◌, ℕ, ◌<◌, List, [], ◌∷◌, map, length, All, Contains}
 use Rattle.delays.specs.Kind.{Kind, Exact}
 use Rattle.delays.specs.Totals.{total}
 use Rattle.network.specs.Bounds.{Bounds, Inside}
@@ -32,7 +31,7 @@ Apart (x ∷ xs) = All (λ y. ¬ (x ≡ y)) xs × Apart xs
 pub record Path (k : Kind) (edges : Bounds k) (p q : ℕ) (row : Bounds k) : Type 0 where
   pub walk : Walk p row q
   pub apart : Apart (stops p row)
-  pub held : All (Has edges) row
+  pub held : All (Contains edges) row
 
 -- a path from p to q whose sum is at most that of the row
 pub record Shorter (k : Kind) (edges : Bounds k) (p q : ℕ) (row : Bounds k) : Type 0 where
@@ -45,17 +44,17 @@ pub record Shorter (k : Kind) (edges : Bounds k) (p q : ℕ) (row : Bounds k) : 
 -- along a walk from p to q over bounds that an assignment meets, the time of p is at most that of q plus the sum
 abbrev pub WalkBounds : Kind → Type 0
 WalkBounds k = (edges : Bounds k) (t : ℕ → Exact k) → Solution k edges t
-    → (p q : ℕ) (row : Bounds k) → Walk p row q → All (Has edges) row → Le k (t p) (k.sum (t q) (sum_of k row))
+    → (p q : ℕ) (row : Bounds k) → Walk p row q → All (Contains edges) row → Le k (t p) (k.sum (t q) (sum_of k row))
 
 -- so a time is at least the opposite of the sum of any walk to its point from point 0
 abbrev pub WalkBoundsBelow : Kind → Type 0
 WalkBoundsBelow k = (edges : Bounds k) (t : ℕ → Exact k) → Solution k edges t
-    → (p : ℕ) (row : Bounds k) → Walk 0 row p → All (Has edges) row → Le k (k.opposite (sum_of k row)) (t p)
+    → (p : ℕ) (row : Bounds k) → Walk 0 row p → All (Contains edges) row → Le k (k.opposite (sum_of k row)) (t p)
 
 -- where some assignment meets the bounds, a walk can be cut to a path whose sum is no more
 abbrev pub WalkShortens : Kind → Type 0
 WalkShortens k = (edges : Bounds k) (t : ℕ → Exact k) → Solution k edges t
-    → (p q : ℕ) (row : Bounds k) → Walk p row q → All (Has edges) row → Shorter k edges p q row
+    → (p q : ℕ) (row : Bounds k) → Walk p row q → All (Contains edges) row → Shorter k edges p q row
 
 -- over points below n, a path has fewer than n bounds
 abbrev pub PathShort : Kind → Type 0

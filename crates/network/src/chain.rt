@@ -1,6 +1,5 @@
 // Whether a row of edges is a chain.
-ghost use Rattle.std.specs.Prelude.{◌≡◌, ◌≤◌, true, map, length, is_some, Decides};
-ghost use Rattle.std.specs.List.{AllByRecursion as All};
+ghost use Rattle.std.specs.Prelude.{◌≡◌, ◌≤◌, true, map, length, All, is_some, Decides};
 ghost use Rattle.network.specs.Checks.{Cycle, ChainChecked};
 ghost use Rattle.network.specs.Assignments.{Lt};
 ghost use Rattle.network.specs.Walks.{Apart};
@@ -38,7 +37,7 @@ fn lefts_apart<D: Delay>(row: &[Edge<D>]) -> bool
 
 // Whether the row is closed, with no left point twice.
 fn is_cycle<D: Delay>(row: &[Edge<D>]) -> bool
-    ensures { Decides result (Cycle kind means row.now) }
+    ensures { Decides result (Cycle D.kind D.means row.now) }
 {
     if row.is_empty() {
         return true;
@@ -48,7 +47,7 @@ fn is_cycle<D: Delay>(row: &[Edge<D>]) -> bool
 }
 
 fn below_zero<D: Delay>(sum: D) -> bool
-    ensures { Decides result (Lt kind (means sum) kind.zero) }
+    ensures { Decides result (Lt D.kind (D.means sum) D.kind.zero) }
 {
     !D::zero().at_most(sum)
 }
@@ -57,10 +56,10 @@ fn below_zero<D: Delay>(sum: D) -> bool
 // with no left point twice and a sum on the way leaves the reach; for at most 256 edges, none with a delay of a size above the greatest,
 // there is always an answer. Edges that hold a chain are met by no times.
 pub fn is_chain<D: Delay>(row: &[Edge<D>]) -> Option<bool>
-    ensures answer { ChainChecked kind means row.now result }
-    ensures small { length row.now ≤ 256 → All (λ e. kind.size (means e.delay) ≤ kind.greatest) row.now → is_some result ≡ true }
-    ensures chains { ChainTheory kind }
-    ensures rounds { RoundsRepeat kind }
+    ensures answer { ChainChecked D.kind D.means row.now result }
+    ensures small { length row.now ≤ 256 → All (λ e. D.kind.size (D.means e.delay) ≤ D.kind.greatest) row.now → is_some result ≡ true }
+    ensures chains { ChainTheory D.kind }
+    ensures rounds { RoundsRepeat D.kind }
 {
     if !is_cycle(row) {
         return Some(false);

@@ -15,7 +15,7 @@ pub struct Edge<D> {
 
 // The floor of a point: point 0 comes no later than it.
 pub fn floor<D: Delay>(point: usize) -> Edge<D>
-    ensures { bound_of kind means result ≡ floor_of kind point }
+    ensures { bound_of D.kind D.means result ≡ floor_of D.kind point }
 {
     Edge {
         left: 0,
@@ -38,7 +38,7 @@ pub(crate) fn numbered<D: Delay>(edges: &[Edge<D>], number: usize) -> Option<Edg
 // The edge in force with the number, where the book has these edges and there are so many points: an edge of the book, or after those
 // the floor of a point. Nothing exactly when none has the number.
 pub fn in_force<D: Delay>(book: &[Edge<D>], points: usize, number: usize) -> Option<Edge<D>>
-    ensures { InForceRead kind means book.now points number result }
+    ensures { InForceRead D.kind D.means book.now points number result }
 {
     match numbered(book, number) {
         Some(edge) => Some(edge),
@@ -55,7 +55,7 @@ pub fn in_force<D: Delay>(book: &[Edge<D>], points: usize, number: usize) -> Opt
 
 // Whether two values mean one delay.
 pub(crate) fn equal<D: Delay>(a: D, b: D) -> bool
-    ensures { Decides result (means a ≡ means b) }
+    ensures { Decides result (D.means a ≡ D.means b) }
 {
     a.at_most(b) && b.at_most(a)
 }

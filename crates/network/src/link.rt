@@ -64,7 +64,7 @@ impl Link {
 
 // The edge that the link names, or nothing exactly when the book has no bound with its number.
 pub fn edge_of<D: Delay>(link: Link, book: &[Edge<D>], posted: Edge<D>) -> Option<Edge<D>>
-    ensures { LinkRead kind means book.now posted link result }
+    ensures { LinkRead D.kind D.means book.now posted link result }
 {
     match link {
         Link::Book { number } => numbered(book, number as usize),

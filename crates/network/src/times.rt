@@ -21,7 +21,7 @@ pub enum Mismatch {
 
 // The time of a point; points past the list are at zero.
 fn time_at<D: Delay>(times: &[D], point: usize) -> D
-    ensures { means result ≡ time_of_point kind means times.now point }
+    ensures { D.means result ≡ time_of_point D.kind D.means times.now point }
 {
     if point < times.len() {
         times[point]
@@ -33,7 +33,7 @@ fn time_at<D: Delay>(times: &[D], point: usize) -> D
 // Whether the times meet the edge, or nothing exactly when the limit that it sets, the right point's time plus the delay, is past the
 // reach. Points past the list are at zero.
 pub fn meets<D: Delay>(edge: Edge<D>, times: &[D]) -> Option<bool>
-    ensures { EdgeChecked kind means times.now edge result }
+    ensures { EdgeChecked D.kind D.means times.now edge result }
 {
     let left = time_at(times, edge.left);
     let right = time_at(times, edge.right);
@@ -45,7 +45,7 @@ pub fn meets<D: Delay>(edge: Edge<D>, times: &[D]) -> Option<bool>
 
 // The check of times, edge by edge.
 fn checked<D: Delay>(edges: &[Edge<D>], times: &[D]) -> Result<(), Mismatch>
-    ensures { TimesChecked kind means edges.now times.now result }
+    ensures { TimesChecked D.kind D.means edges.now times.now result }
 {
     if !equal(time_at(times, 0), D::zero()) {
         return Err(Mismatch::Start);
@@ -67,9 +67,9 @@ fn checked<D: Delay>(edges: &[Edge<D>], times: &[D]) -> Result<(), Mismatch>
 // Whether the times are an assignment that meets every edge, or why not. Points past the list are at zero. Edges that times meet hold
 // no chain, and edges that hold none are met by some times.
 pub fn check_times<D: Delay>(edges: &[Edge<D>], times: &[D]) -> Result<(), Mismatch>
-    ensures answer { TimesChecked kind means edges.now times.now result }
-    ensures walks { WalkTheory kind }
-    ensures consistency { Consistency kind }
+    ensures answer { TimesChecked D.kind D.means edges.now times.now result }
+    ensures walks { WalkTheory D.kind }
+    ensures consistency { Consistency D.kind }
 {
     checked(edges, times)
 }

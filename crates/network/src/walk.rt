@@ -1,6 +1,5 @@
 // Rows of edges: their sums, and where they lead.
-ghost use Rattle.std.specs.Prelude.{◌≡◌, ◌≤◌, true, length, is_some, Decides};
-ghost use Rattle.std.specs.List.{AllByRecursion as All};
+ghost use Rattle.std.specs.Prelude.{◌≡◌, ◌≤◌, true, length, All, is_some, Decides};
 ghost use Rattle.network.specs.Edges.{bounds_of};
 ghost use Rattle.network.specs.Checks.{RowSummed, ComesChecked};
 ghost use Rattle.network.specs.Walks.{Walk};
@@ -12,8 +11,8 @@ use delays::Delay;
 // The sum of the delays of a row, or nothing where a sum on the way leaves the reach. That of at most 256 edges, none with a delay of a
 // size above the greatest, is always had.
 pub fn sum<D: Delay>(row: &[Edge<D>]) -> Option<D>
-    ensures sums { RowSummed kind means row.now result }
-    ensures small { length row.now ≤ 256 → All (λ e. kind.size (means e.delay) ≤ kind.greatest) row.now → is_some result ≡ true }
+    ensures sums { RowSummed D.kind D.means row.now result }
+    ensures small { length row.now ≤ 256 → All (λ e. D.kind.size (D.means e.delay) ≤ D.kind.greatest) row.now → is_some result ≡ true }
 {
     let mut sum = D::zero();
     for edge in row {
@@ -27,7 +26,7 @@ pub fn sum<D: Delay>(row: &[Edge<D>]) -> Option<D>
 
 // Whether the row leads from one point to another.
 pub(crate) fn leads<D: Delay>(row: &[Edge<D>], from: usize, to: usize) -> bool
-    ensures { Decides result (Walk from (bounds_of kind means row.now) to) }
+    ensures { Decides result (Walk from (bounds_of D.kind D.means row.now) to) }
 {
     let mut at = from;
     for edge in row {
@@ -41,7 +40,7 @@ pub(crate) fn leads<D: Delay>(row: &[Edge<D>], from: usize, to: usize) -> bool
 
 // Whether the time is the opposite of the sum.
 fn is_opposite<D: Delay>(time: D, sum: D) -> bool
-    ensures { Decides result (means time ≡ kind.opposite (means sum)) }
+    ensures { Decides result (D.means time ≡ D.kind.opposite (D.means sum)) }
 {
     equal(time, sum.opposite())
 }
@@ -49,8 +48,8 @@ fn is_opposite<D: Delay>(time: D, sum: D) -> bool
 // Whether the row leads from point 0 to the point, and the time is the opposite of its sum. Nothing is answered exactly when the row leads
 // there and a sum on the way leaves the reach. Where times meet a list of edges that has those of the row, such a time is the earliest.
 pub fn comes_over<D: Delay>(row: &[Edge<D>], point: usize, time: D) -> Option<bool>
-    ensures answer { ComesChecked kind means row.now point time result }
-    ensures earliest { EarliestTheory kind }
+    ensures answer { ComesChecked D.kind D.means row.now point time result }
+    ensures earliest { EarliestTheory D.kind }
 {
     if !leads(row, 0, point) {
         return Some(false);

@@ -5,12 +5,12 @@ use Rattle.network.proofs.Repeating.{rounds_repeat}
 use Rattle.network.proofs.Theorems.{chain_theory}
 use Rattle.network.proofs.chain.is_chain.Goals as goal
 
-pub returns-then-not-is-cycle : goal.returns-then-not-is-cycle
-returns-then-not-is-cycle g c =
+pub returns-then-not-is_cycle : goal.returns-then-not-is_cycle
+returns-then-not-is_cycle g c =
     let laws = g.met.D.Delay.lawful in
-    let never = both_ways c.is-cycle.result c.if-not-is-cycle.true in
+    let never = both_ways c.is_cycle.result c.if-not-is_cycle.true in
     record {
-      answer = (answers_no (λ chain. never (c.is-cycle.ensures.1 (chain.start, chain.closed, chain.apart))), λ cycle past. never (c.is-cycle.ensures.1 cycle));
+      answer = (answers_no (λ chain. never (c.is_cycle.ensures.1 (chain.start, chain.closed, chain.apart))), λ cycle past. never (c.is_cycle.ensures.1 cycle));
       small = λ few small. refl;
       chains = chain_theory laws;
       rounds = rounds_repeat laws;
@@ -25,7 +25,7 @@ returns-in-Some g c =
     let sums = c.in-Some.ensures.sums in
     record {
       answer = (
-        chain_decided d.kind d.means row c.below-zero.result sum (c.is-cycle.ensures.0 c.if-not-is-cycle.false) sums.0 c.below-zero.ensures,
+        chain_decided d.kind d.means row c.below_zero.result sum (c.is_cycle.ensures.0 c.if-not-is_cycle.false) sums.0 c.below_zero.ensures,
         λ cycle past. not_past d.kind d.means row sums.1 past,
       );
       small = λ few small. refl;
@@ -37,7 +37,7 @@ pub returns-in-None : goal.returns-in-None
 returns-in-None g c =
     let laws = g.met.D.Delay.lawful in
     record {
-      answer = (c.is-cycle.ensures.0 c.if-not-is-cycle.false, c.in-None.ensures.sums);
+      answer = (c.is_cycle.ensures.0 c.if-not-is_cycle.false, c.in-None.ensures.sums);
       small = c.in-None.ensures.small;
       chains = chain_theory laws;
       rounds = rounds_repeat laws;

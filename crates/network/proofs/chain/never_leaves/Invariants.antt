@@ -1,5 +1,5 @@
 use Rattle.std.proofs.Common.{◌≡◌, take}
-use Rattle.std.specs.List.{AllByRecursion as All}
+use Rattle.std.specs.List.{All}
 use Rattle.network.proofs.chain.never_leaves.Given as goal
 
 abbrev pub invariant-loop-edge : goal.invariant-loop-edge

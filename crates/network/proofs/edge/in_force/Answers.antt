@@ -1,5 +1,5 @@
 use Rattle.std.proofs.Common.{◌≡◌, ◌-◌, ◌<◌, ◌≤◌, length, sym, ap, ◌∙◌, subst, arith}
-use lib.ListN.{length-map}
+use Rattle.std.proofs.lemmas.List.{length-map}
 use Rattle.network.specs.Bounds.{Numbered, floor_of, bounds_in_force}
 use Rattle.network.specs.Edges.{bound_of, bounds_of}
 use Rattle.network.proofs.Checking.{numbered_bound}

@@ -1,6 +1,6 @@
 use Rattle.std.proofs.Common.{sym, ◌∙◌, subst}
-use Rattle.std.specs.List.{AllByRecursion as All}
-use Rattle.std.proofs.ByRecursion.{All-more, All-map, All-weaker}
+use Rattle.std.specs.List.{All}
+use Rattle.std.proofs.lemmas.List.Elements.{All-more, All-map, All-weaker}
 use Rattle.std.proofs.lemmas.List.{take_all}
 use Rattle.delays.specs.Kind.{Within}
 use Rattle.network.specs.Assignments.{Meets}
@@ -26,7 +26,7 @@ returns g c =
     let P = MetWithin k means times in
     let met : All P edges = subst (All P) (take_all _ edges c.loop-number-test.false) c.loop-number.invariant in (
       record {
-        zero_first = sym c.time-at.ensures ∙ (c.equal.ensures.0 c.if-not-equal.false ∙ c.zero.ensures);
+        zero_first = sym c.time_at.ensures ∙ (c.equal.ensures.0 c.if-not-equal.false ∙ c.zero.ensures);
         meets = All-map (Meets k (time_of_point k means times)) (bound_of k means) edges (All-weaker P (Met k means times) (λ e h. h.1) edges met);
       },
       All-weaker P (λ e. Within k (limit_at k means times e)) (λ e h. h.0) edges met,

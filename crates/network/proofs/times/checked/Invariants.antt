@@ -1,5 +1,5 @@
 use Rattle.std.proofs.Common.{take}
-use Rattle.std.specs.List.{AllByRecursion as All}
+use Rattle.std.specs.List.{All}
 use Rattle.network.specs.Checks.{MetWithin}
 use Rattle.network.proofs.times.checked.Given as goal
 

@@ -19,7 +19,7 @@ returns-in-Some g c =
     let opposite = ap d.kind.opposite sums.0 in
     record {
       answer = (
-        (λ e. (c.leads.ensures.0 c.if-not-leads.false, c.is-opposite.ensures.0 e ∙ opposite), λ over. c.is-opposite.ensures.1 (over.1 ∙ sym opposite)),
+        (λ e. (c.leads.ensures.0 c.if-not-leads.false, c.is_opposite.ensures.0 e ∙ opposite), λ over. c.is_opposite.ensures.1 (over.1 ∙ sym opposite)),
         λ walk past. not_past d.kind d.means c.args.row.now sums.1 past,
       );
       earliest = earliest_theory g.met.D.Delay.lawful;

@@ -15,7 +15,7 @@ returns-in-None g c =
     let d = g.D.Delay in
     let row = c.args.row.now in
     let laws = g.met.D.Delay.lawful in
-    let i = c.loop-edge.edge_index in
+    let i = c.loop-edge.edge-index in
     let sum_is_lem = sum_next laws d.means row i c.edge-item.result c.loop-edge-test.true c.edge-item.is c.loop-edge.invariant.0 in
     let over = subst (λ z. d.kind.reach < d.kind.size z) sum_is_lem c.in-None.ensures in
     record {
@@ -28,7 +28,7 @@ loop-edge-preserved g c =
     let d = g.D.Delay in
     let row = c.args.row.now in
     let laws = g.met.D.Delay.lawful in
-    let i = c.loop-edge.edge_index in
+    let i = c.loop-edge.edge-index in
     let sum_is_lem = c.in-Some.ensures ∙ sum_next laws d.means row i c.edge-item.result c.loop-edge-test.true c.edge-item.is c.loop-edge.invariant.0 in
     (sum_is_lem, within_next laws d.means row i c.loop-edge.invariant.1 (subst (λ z. Within d.kind z) sum_is_lem (g.met.D.Delay.within c.in-Some.next)))
 
