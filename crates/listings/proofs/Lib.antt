@@ -1,5 +1,4 @@
 pub mod Entries
-pub mod Prints
 pub mod Pieces
 pub mod Back
 pub mod Once

@@ -4,9 +4,6 @@ use Rattle.std.proofs.lemmas.Int.{to_z-of_z}
 use Rattle.listings.proofs.Entries.{bound_refused}
 use Rattle.listings.proofs.entry.bound_line.Goals as goal
 
-pub returns-in_err-numbers : goal.returns-in_err-numbers
-returns-in_err-numbers c = let p = err_from_is_err_and c.from_residual.result c.from_residual.ensures.1 in rw (p.1, p.2) c.in_err-numbers.ensures.reads
-
 pub returns-in_err-bound : goal.returns-in_err-bound
 returns-in_err-bound c =
     let p = err_from_is_err_and c.from_residual-in_err-bound.result c.from_residual-in_err-bound.ensures.1 in
