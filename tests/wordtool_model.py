@@ -1,7 +1,7 @@
 #!/usr/bin/env python3
-"""Compares target/bin/wordtool with an independent model of docs/FORMATS.md on random inputs.
+"""Compares crates/wordtool/out/wordtool with an independent model of docs/FORMATS.md on random inputs.
 
-Usage: tests/wordtool_model.py [INPUTS [SEED]]    (after `rt check wordtool`)
+Usage: tests/wordtool_model.py [INPUTS [SEED]]    (after `rt run` in crates/wordtool)
 """
 import random
 import re
@@ -9,7 +9,7 @@ import subprocess
 import sys
 from pathlib import Path
 
-TOOL = Path(__file__).resolve().parent.parent / "target/bin/wordtool"
+TOOL = Path(__file__).resolve().parent.parent / "crates/wordtool/out/wordtool"
 GREATEST = 500_000_000
 DONE = {"write": "written", "read": "read", "": "written and read back"}
 RANGES = [(0, 4095), (0, 4095), (-GREATEST, GREATEST), (-GREATEST, GREATEST)]

@@ -15,13 +15,15 @@ import sys
 
 # Lemmas named for two functions, in the library's way: a dash joins the functions.
 JOINED = {
-    "answered-append", "drop-ended", "drop-replaced", "ended-append", "follows-append", "length-ended", "length-replaced", "length-writing", "nth-take",
-    "session-append", "set-replaced", "sum-append", "take-before-replaced", "take-replaced", "take-writing", "writing-append",
+    "drop-ended", "drop-replaced", "ended-append", "length-ended", "length-replaced", "length-writing", "set-replaced", "take-replaced", "take-writing",
+    "writing-append",
 }
-# Names that would fall together with functions of src/, and what they are called in their place.
+# What is called otherwise: names that would fall together with functions of src/, and lemmas whose names spell the words that they speak of.
 OTHERS = {
     "bound-text": "text_of_bound", "entry-text": "text_of_entry", "refusal-text": "text_of_refusal", "summary-text": "text_of_summary",
     "in-force": "bounds_in_force", "time-at": "time_of_point", "r-in": "r_in", "x-in": "x_in",
+    "answered-append": "Answered-append", "session-append": "Session-append", "follows-append": "Follows-append", "sum-append": "sum_of-append",
+    "take-before-replaced": "take_before-replaced", "nth-front": "slice_get_front", "nth-back": "slice_get_back", "nth-take": "slice_get-take",
 }
 WORD = r"[A-Za-z_ℤℕ][\w'′ℤℕ]*(?:-[\w'′ℤℕ]+)*"
 # A step of a proof, as `c.zero-sum`, is named by Rattle.

@@ -18,18 +18,18 @@ set_sound (x ∷ xs) (suc i) r h s zero = h zero
 set_sound (x ∷ xs) (suc i) r h s (suc k) = set_sound xs i r (λ j. h (suc j)) s k
 
 module _ {X : Type 0} where
-  pub nth_front : (xs ys : List X) (i : ℕ) → i < length xs → slice_get (xs ++ ys) i ≡ slice_get xs i
-  nth_front [] ys i h = absurd (omega arith)
-  nth_front (x ∷ xs) ys zero h = refl
-  nth_front (x ∷ xs) ys (suc i) h = nth_front xs ys i (omega arith)
+  pub slice_get_front : (xs ys : List X) (i : ℕ) → i < length xs → slice_get (xs ++ ys) i ≡ slice_get xs i
+  slice_get_front [] ys i h = absurd (omega arith)
+  slice_get_front (x ∷ xs) ys zero h = refl
+  slice_get_front (x ∷ xs) ys (suc i) h = slice_get_front xs ys i (omega arith)
 
-  pub nth_back : (xs ys : List X) (i j : ℕ) → length xs ≤ i → j ≡ i - length xs → slice_get (xs ++ ys) i ≡ slice_get ys j
-  nth_back [] ys i j h e = ap (slice_get ys) (omega arith)
-  nth_back (x ∷ xs) ys zero j h e = absurd (omega arith)
-  nth_back (x ∷ xs) ys (suc i) j h e = nth_back xs ys i j (omega arith) (omega arith)
+  pub slice_get_back : (xs ys : List X) (i j : ℕ) → length xs ≤ i → j ≡ i - length xs → slice_get (xs ++ ys) i ≡ slice_get ys j
+  slice_get_back [] ys i j h e = ap (slice_get ys) (omega arith)
+  slice_get_back (x ∷ xs) ys zero j h e = absurd (omega arith)
+  slice_get_back (x ∷ xs) ys (suc i) j h e = slice_get_back xs ys i j (omega arith) (omega arith)
 
-  pub nth-take : (n : ℕ) (xs : List X) (i : ℕ) → i < n → slice_get (take n xs) i ≡ slice_get xs i
-  nth-take zero xs i h = absurd (omega arith)
-  nth-take (suc n) [] i h = refl
-  nth-take (suc n) (x ∷ xs) zero h = refl
-  nth-take (suc n) (x ∷ xs) (suc i) h = nth-take n xs i (omega arith)
+  pub slice_get-take : (n : ℕ) (xs : List X) (i : ℕ) → i < n → slice_get (take n xs) i ≡ slice_get xs i
+  slice_get-take zero xs i h = absurd (omega arith)
+  slice_get-take (suc n) [] i h = refl
+  slice_get-take (suc n) (x ∷ xs) zero h = refl
+  slice_get-take (suc n) (x ∷ xs) (suc i) h = slice_get-take n xs i (omega arith)

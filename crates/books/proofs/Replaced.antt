@@ -36,8 +36,8 @@ module _ (ws new : List ℕ) (i : ℕ) (inside : i + length new ≤ length ws) w
   pub take-replaced : (k : ℕ) → k ≡ i + length new → take k (replaced ws i new) ≡ take i ws ++ new
   take-replaced k e = ap (take k) (sym mid) ∙ take-put_mid i (length new) ws new k e (omega arith)
 
-  pub take-before-replaced : (k : ℕ) → k ≤ i → take k (replaced ws i new) ≡ take k ws
-  take-before-replaced k h = ap (take k) (sym mid) ∙ take-put_mid_below i (length new) ws new k h (omega arith)
+  pub take_before-replaced : (k : ℕ) → k ≤ i → take k (replaced ws i new) ≡ take k ws
+  take_before-replaced k h = ap (take k) (sym mid) ∙ take-put_mid_below i (length new) ws new k h (omega arith)
 
   pub drop-replaced : (k : ℕ) → i + length new ≤ k → drop k (replaced ws i new) ≡ drop k ws
   drop-replaced k h = ap (drop k) (sym mid) ∙ drop-put_mid i (length new) ws new k h (omega arith) refl
@@ -58,7 +58,7 @@ module _ (places : ℕ) (ws : List ℕ) (n : ℕ) (room : 3 * places ≤ length 
   before_ended j h = cond_both (ltb n places) _ ws (λ vs. get_or vs j 0 ≡ get_or ws j 0) (λ e. before_replaced ws (0 ∷ []) (3 * n) (inside (ltb-true n places e)) j h) (λ e. refl)
 
   pub take_ended : (k : ℕ) → k ≤ 3 * n → take k (ended places ws n) ≡ take k ws
-  take_ended k h = cond_both (ltb n places) _ ws (λ vs. take k vs ≡ take k ws) (λ e. take-before-replaced ws (0 ∷ []) (3 * n) (inside (ltb-true n places e)) k h) (λ e. refl)
+  take_ended k h = cond_both (ltb n places) _ ws (λ vs. take k vs ≡ take k ws) (λ e. take_before-replaced ws (0 ∷ []) (3 * n) (inside (ltb-true n places e)) k h) (λ e. refl)
 
   pub drop-ended : (k : ℕ) → 3 * places ≤ k → drop k (ended places ws n) ≡ drop k ws
   drop-ended k h =

@@ -16,7 +16,7 @@ pub trait Delay: Copy {
     // The exact delay that a value means.
     ghost means: { Self → Exact kind };
 
-    // `GREATEST` and `REACH`. No clause can name a constant, so this ties them to the kind's two numbers.
+    // `GREATEST` and `REACH`: this ties them to the kind's two numbers.
     fn limits() -> (u64, u64)
         ensures greatest { result.0 ≡ kind.greatest }
         ensures reach { result.1 ≡ kind.reach };

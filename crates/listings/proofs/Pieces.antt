@@ -59,22 +59,22 @@ ended-append : (lines more : List (List ℕ)) → ended (lines ++ more) ≡ ende
 ended-append [] more = refl
 ended-append (l ∷ lines) more = ap (λ x. (l ++ (10 ∷ [])) ++ x) (ended-append lines more) ∙ sym (append_assoc (l ++ (10 ∷ [])) (ended lines) (ended more))
 
-answered-append : (task : Task) (lines more : List (List ℕ)) (c d e : Tally) (o p : List ℕ)
+Answered-append : (task : Task) (lines more : List (List ℕ)) (c d e : Tally) (o p : List ℕ)
     → Answered task c lines o d → Answered task d more p e → Answered task c (lines ++ more) (o ++ p) e
-answered-append task [] more c d e o p (none, same) q =
+Answered-append task [] more c d e o p (none, same) q =
     subst (λ x. Answered task c more (x ++ p) e) (sym none) (subst (λ x. Answered task x more p e) same q)
-answered-append task (l ∷ lines) more c d e o p (first, rest, between, cut, tells, h) q =
-    (first, rest ++ p, between, ap (λ x. x ++ p) cut ∙ append_assoc first rest p, tells, answered-append task lines more between d e rest p h q)
+Answered-append task (l ∷ lines) more c d e o p (first, rest, between, cut, tells, h) q =
+    (first, rest ++ p, between, ap (λ x. x ++ p) cut ∙ append_assoc first rest p, tells, Answered-append task lines more between d e rest p h q)
 
-session-append : (task : Task) (c d e : Tally) (part x y o p middle left : List ℕ)
+Session-append : (task : Task) (c d e : Tally) (part x y o p middle left : List ℕ)
     → Session task c part x o d middle → Session task d middle y p e left → Session task c part (x ++ y) (o ++ p) e left
-session-append task c d e part x y o p middle left s t = record {
+Session-append task c d e part x y o p middle left s t = record {
   lines = s.lines ++ t.lines;
   cut = sym (append_assoc part x y) ∙ (ap (λ z. z ++ y) s.cut ∙ (append_assoc (ended s.lines) middle y
       ∙ (ap (λ z. ended s.lines ++ z) t.cut ∙ (sym (append_assoc (ended s.lines) (ended t.lines) left)
       ∙ ap (λ z. z ++ left) (sym (ended-append s.lines t.lines))))));
   whole = All-append OneLine s.lines t.lines s.whole t.whole;
-  answers = answered-append task s.lines t.lines c d e o p s.answers t.answers;
+  answers = Answered-append task s.lines t.lines c d e o p s.answers t.answers;
 }
 
 -- no input changes nothing
@@ -85,14 +85,14 @@ follows_none tool text none = record {
 }
 
 -- two pieces are answered as one
-pub follows-append : PiecesJoin
-follows-append a b z x y o p f g = record {
+pub Follows-append : PiecesJoin
+Follows-append a b z x y o p f g = record {
   task = g.task ∙ f.task;
   goes = λ part h.
       let first = f.goes part h in
       let then = g.goes first.0 first.1 in
       let session = subst (λ t. Session t b.tally first.0 y p z.tally then.0) f.task then.2 in
-      (then.0, then.1, session-append a.task a.tally b.tally z.tally part x y o p first.0 then.0 first.2 session);
+      (then.0, then.1, Session-append a.task a.tally b.tally z.tally part x y o p first.0 then.0 first.2 session);
 }
 
 -- a byte that ends no line
@@ -144,7 +144,7 @@ pub follows_push : (a b z : Tool) (piece : List ℕ) (i : ℕ) (out text more : 
     → Follows a (take i piece) out b → Follows b (get_or piece i 0 ∷ []) text z → more ≡ out ++ text → Follows a (take (i + 1) piece) more z
 follows_push a b z piece i out text more within f g e =
     subst (λ o. Follows a (take (i + 1) piece) o z) (sym e)
-    (subst (λ x. Follows a x (out ++ text) z) (sym (take_more piece i 0 within)) (follows-append a b z (take i piece) (get_or piece i 0 ∷ []) out text f g))
+    (subst (λ x. Follows a x (out ++ text) z) (sym (take_more piece i 0 within)) (Follows-append a b z (take i piece) (get_or piece i 0 ∷ []) out text f g))
 
 -- a fresh tool, the whole input, and its end
 pub whole_prints : WholePrints

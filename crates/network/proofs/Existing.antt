@@ -13,7 +13,7 @@ use Rattle.network.specs.Consistency.{ChainOrEarliest}
 use Rattle.network.proofs.InForce.{floor_held, force_inside}
 use Rattle.network.proofs.Relaxing.{best, best_from, Came}
 use Rattle.network.proofs.Settling.{label, label_grows_by, settled, rest_solves, chain_or_rest}
-use Rattle.network.proofs.Shortening.{sum-append, earliest_reached}
+use Rattle.network.proofs.Shortening.{sum_of-append, earliest_reached}
 use Rattle.network.proofs.Turning.{walk_push}
 use Rattle.network.proofs.Walking.{walk_bounds_below}
 
@@ -25,7 +25,7 @@ module _ {k : Kind} (laws : Lawful k) where
     walk = walk_push r.row b 0 b.left r.walk refl;
     held = All-push (Contains edges) r.row b r.held held;
     value = ap (λ y. carry k y b.delay) r.value ∙ (sym ((theory laws).opposite_sum (sum_of k r.row) b.delay)
-        ∙ ap k.opposite (ap (k.sum (sum_of k r.row)) (sym (laws.zero_adds_nothing b.delay)) ∙ sym (sum-append laws r.row (b ∷ []))));
+        ∙ ap k.opposite (ap (k.sum (sum_of k r.row)) (sym (laws.zero_adds_nothing b.delay)) ∙ sym (sum_of-append laws r.row (b ∷ []))));
   }
 
   -- zero is reached over the floor

@@ -60,9 +60,9 @@ seek {k} p r q (b ∷ bs) w = go (cases_eq p r) (seek p b.right q bs w.1)
     go (inr ne) (inr off) = inr (All-cons (λ y. ¬ (p ≡ y)) r (stops b.right bs) ne off)
 
 module _ {k : Kind} (laws : Lawful k) where
-  pub sum-append : (xs ys : Bounds k) → sum_of k (xs ++ ys) ≡ k.sum (sum_of k xs) (sum_of k ys)
-  sum-append [] ys = sym (zero_left laws (sum_of k ys))
-  sum-append (x ∷ xs) ys = ap (k.sum x.delay) (sum-append xs ys) ∙ sym (laws.assoc x.delay (sum_of k xs) (sum_of k ys))
+  pub sum_of-append : (xs ys : Bounds k) → sum_of k (xs ++ ys) ≡ k.sum (sum_of k xs) (sum_of k ys)
+  sum_of-append [] ys = sym (zero_left laws (sum_of k ys))
+  sum_of-append (x ∷ xs) ys = ap (k.sum x.delay) (sum_of-append xs ys) ∙ sym (laws.assoc x.delay (sum_of k xs) (sum_of k ys))
 
   module _ (edges : Bounds k) (t : ℕ → Exact k) (s : Solution k edges t) where
     -- A bound goes in front of a path. Where the path comes back to the bound's left point, the closed part up to there is dropped:
@@ -78,7 +78,7 @@ module _ {k : Kind} (laws : Lawful k) where
         let parts : All (Contains edges) (c.front ++ c.back) = rw c.split at r.path.held in
         let loop = b ∷ c.front in
         let free : Le k k.zero (sum_of k loop) = closed_at_least laws edges t s p loop (e, c.there) (All-cons (Contains edges) b c.front f (all_front (Contains edges) c.front c.back parts)) in
-        let whole : sum_of k (b ∷ r.cut) ≡ k.sum (sum_of k loop) (sum_of k c.back) = ap (λ l. sum_of k (b ∷ l)) c.split ∙ sum-append loop c.back in
+        let whole : sum_of k (b ∷ r.cut) ≡ k.sum (sum_of k loop) (sum_of k c.back) = ap (λ l. sum_of k (b ∷ l)) c.split ∙ sum_of-append loop c.back in
         record {
           cut = c.back;
           path = record { walk = c.onward; apart = c.apart r.path.apart; held = all_back (Contains edges) c.front c.back parts };

@@ -9,7 +9,7 @@ use Rattle.network.specs.Assignments.{Solution}
 use Rattle.network.specs.Walks.{sum_of, Walk, lefts, Apart}
 use Rattle.network.specs.Chains.{ChainIn, ChainFrom, ChainTurns, ChainFromPosted}
 use Rattle.network.proofs.Walking.{chain_refutes}
-use Rattle.network.proofs.Shortening.{sum-append}
+use Rattle.network.proofs.Shortening.{sum_of-append}
 
 pub walk_push : {k : Kind} (xs : Bounds k) (x : ExactBound k) (p q : ℕ) → Walk p xs q → x.left ≡ q → Walk p (xs ++ x ∷ []) x.right
 walk_push [] x p q w e = (e ∙ sym w, refl)
@@ -27,7 +27,7 @@ module _ {k : Kind} (laws : Lawful k) where
       start = x.right;
       closed = walk_push xs x x.right chain.start chain.closed.1 chain.closed.0;
       apart = rw (map-append (λ b. b.left) xs (x ∷ [])) (apart_push (lefts xs) x.left chain.apart.0 chain.apart.1);
-      below = rw (sum-append laws xs (x ∷ []), laws.zero_adds_nothing x.delay, laws.comm (sum_of k xs) x.delay) chain.below;
+      below = rw (sum_of-append laws xs (x ∷ []), laws.zero_adds_nothing x.delay, laws.comm (sum_of k xs) x.delay) chain.below;
     };
     held = All-push (Contains edges) xs x (All-tail (Contains edges) x xs c.held) (All-head (Contains edges) x xs c.held);
   }
