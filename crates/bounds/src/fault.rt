@@ -38,12 +38,12 @@ impl fmt::Display for BoundFault {
     ghost output = { λ e. Some (reason_of e) };
 
     fn fmt<W: fmt::Write>(&self, f: &mut fmt::Formatter<W>) -> fmt::Result {
-        match self {
-            BoundFault::LeftPoint => write!(f, "the left point is not from 0 to 4095"),
-            BoundFault::RightPoint => write!(f, "the right point is not from 0 to 4095"),
-            BoundFault::PartT => write!(f, "t is not from -500000000 to 500000000"),
-            BoundFault::PartS => write!(f, "s is not from -500000000 to 500000000"),
-        }
+        f.write_str(match self {
+            BoundFault::LeftPoint => "the left point is not from 0 to 4095",
+            BoundFault::RightPoint => "the right point is not from 0 to 4095",
+            BoundFault::PartT => "t is not from -500000000 to 500000000",
+            BoundFault::PartS => "s is not from -500000000 to 500000000",
+        })
     }
 }
 
