@@ -1,6 +1,6 @@
 -- The reading of rows of words, and the law of house words. Assumes nothing.
 use Rattle.std.proofs.Common.{◌≡◌, ℕ, zero, suc, ◌+◌, ◌-◌, ◌*◌, ◌%◌, ◌<◌, ◌≤◌, min, List, [], ◌∷◌, ◌++◌, length, get_or, take, drop, Ok, Err, Result, sym, refl, ap, ◌∙◌, subst, inl, inr, append-nil, arith, MatchResult}
-use Rattle.std.proofs.lemmas.List.{take_rest, take_at, take_all, take-take, length-take, length-append, get_or-append_right, length_push, nil_from_length}
+use Rattle.std.proofs.lemmas.List.{take_rest, take_at, take_all, take-take, length-take, length-append, get_or-append_right, length_push}
 use Rattle.std.proofs.lemmas.List.Elements.{All-nil, All-cons, All-head, All-tail, All-push}
 use Rattle.std.proofs.lemmas.Bool.{cases_order}
 use Rattle.std.specs.List.{All}
@@ -36,13 +36,6 @@ passed_more ws n rest b p three e =
       cut = p.cut ∙ (ap (λ x. writing p.rows ++ x) words ∙ (writing_push p.rows (row_of b) (drop 3 rest)
           ∙ ap (λ x. writing (p.rows ++ (row_of b ∷ [])) ++ x) (sym (take_rest rest 3))));
     }
-
--- the rows end where no word is left, or at a zero head
-pub passed_end : (ws : List ℕ) (n : ℕ) (rest : List ℕ) → Passed ws n rest → get_or rest 0 0 ≡ 0 → RowsRead ws (Ok n)
-passed_end ws n rest p none = (p.rows, p.many, record { sound = p.sound; after = rest; cut = p.cut; ends = none })
-
-pub passed_all : (ws : List ℕ) (n : ℕ) (rest : List ℕ) → Passed ws n rest → length rest ≡ 0 → RowsRead ws (Ok n)
-passed_all ws n rest p none = passed_end ws n rest p (ap (λ x. get_or x 0 0) (nil_from_length rest none))
 
 -- the row that comes next is broken
 pub passed_broken : (ws : List ℕ) (n : ℕ) (rest : List ℕ) (e : WordFault) → Passed ws n rest → 3 ≤ length rest → (get_or rest 0 0 ≡ 0 → ⊥)

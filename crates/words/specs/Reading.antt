@@ -1,6 +1,6 @@
 -- What words mean: the rows that they hold, or the first word that breaks its row. A reading is told by the writing
 -- alone, so there is no second definition of how a word is taken apart. Assumes nothing.
-use Rattle.std.specs.Prelude.{◌≡◌, ℕ, zero, suc, ◌+◌, ◌*◌, ◌%◌, ◌<◌, ◌≤◌, List, [], ◌∷◌, ◌++◌, length, take, ℤ, Ok, Err, Result, ◌≢◌, slice_index, slice_index_or}
+use Rattle.std.specs.Prelude.{◌≡◌, ℕ, zero, suc, ◌+◌, ◌*◌, ◌%◌, ◌<◌, ◌≤◌, List, ◌++◌, length, take, ℤ, Ok, Err, Result, ◌≢◌, slice_index, slice_index_or}
 use Rattle.std.specs.List.{All}
 use Rattle.bounds.specs.declared.bound.Bound.{Bound}
 use Rattle.bounds.specs.declared.row.Row.{Row}

@@ -23,19 +23,13 @@ impl From<Bound> for BoundWords {
         ensures value { result.0 ≡ row_words (row_of bound) }
         ensures law { Law }
     {
-        written(bound)
+        let Row { left, right, t, s } = bound.row();
+        BoundWords([
+            Tag::Head as u32 * TOP + left as u32 * LEFT + right as u32,
+            Tag::T as u32 * TOP + t.cast_unsigned() % TOP,
+            Tag::S as u32 * TOP + s.cast_unsigned() % TOP,
+        ])
     }
-}
-
-fn written(bound: Bound) -> BoundWords
-    ensures { result.0 ≡ row_words (row_of bound) }
-{
-    let Row { left, right, t, s } = bound.row();
-    BoundWords([
-        Tag::Head.over(left as u32 * LEFT + right as u32),
-        Tag::T.over(t.cast_unsigned() % TOP),
-        Tag::S.over(s.cast_unsigned() % TOP),
-    ])
 }
 
 // The bound in the row whose head is at the place `first`, or the first word that breaks the row.

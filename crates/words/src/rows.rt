@@ -18,7 +18,9 @@ fn count_rows(words: &[u32]) -> Result<usize, WordFault>
 {
     let mut unread = words;
     let mut rows = 0;
-    while let [head, t, s, rest @ ..] = unread && *head != 0 {
+    while let [head, t, s, rest @ ..] = unread
+        && *head != 0
+    {
         read_row(3 * rows as u64, BoundWords([*head, *t, *s]))?;
         rows += 1;
         unread = rest;

@@ -1,5 +1,5 @@
 // What lies below the two top bits of a word.
-ghost use Rattle.std.specs.Prelude.{◌≡◌, ◌+◌, ◌*◌, ◌^◌, ◌<◌, ◌≤◌, MatchOption};
+ghost use Rattle.std.specs.Prelude.{◌≡◌, ◌≤◌, MatchOption};
 ghost use Rattle.bounds.specs.Range.{Part};
 ghost use Rattle.words.specs.Reading.{IsHead, IsPart};
 ghost use Rattle.words.specs.Tags.{bits_of};
@@ -13,7 +13,7 @@ pub(crate) const LEFT: u32 = 0x1000;
 const GREATEST_PART: u32 = 500_000_000;
 
 // The words of a bound, each with its two top bits.
-#[derive(Clone, Copy, PartialEq, Eq, Debug)]
+#[derive(Clone, Copy)]
 pub(crate) enum Tag {
     Head = 1,
     T = 2,
@@ -21,14 +21,6 @@ pub(crate) enum Tag {
 }
 
 impl Tag {
-    // The word with these bits below the tag.
-    pub(crate) fn over(self, low: u32) -> u32
-        requires { low < 2 ^ 30 }
-        ensures { result ≡ bits_of self * 2 ^ 30 + low }
-    {
-        self as u32 * TOP + low
-    }
-
     // The part in a word under this tag, or nothing where no bound has this word. The shift to the right carries the sign.
     pub(crate) fn part(self, word: u32) -> Option<i32>
         ensures { MatchOption result (IsPart (bits_of self) word → ⊥) (λ z. Part z × (word ≡ part_word (bits_of self) z)) }
@@ -44,5 +36,5 @@ pub(crate) fn points(head: u32) -> Option<(u16, u16)>
 {
     let left = (head / LEFT % LEFT) as u16;
     let right = (head % LEFT) as u16;
-    (head / (LEFT * LEFT) == 0x40).then_some((left, right))
+    (head / TOP == Tag::Head as u32 && head % TOP < LEFT * LEFT).then_some((left, right))
 }

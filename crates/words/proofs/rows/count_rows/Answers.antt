@@ -8,7 +8,7 @@ returns-in_err-read_row c =
     let rest = c.loop-unread.unread.now in
     let three : 3 ≤ length rest = search rules in
     let told : RowsRead c.args.words.now (Err c.in_err-read_row.field-0.0) =
-        passed_broken _ _ rest _ c.loop-unread.invariant.0 three (search rules) c.in_err-read_row.ensures in
+    passed_broken _ _ rest _ c.loop-unread.invariant.0 three (search rules) c.in_err-read_row.ensures in
     search rules
 
 pub loop-unread-preserved : goal.loop-unread-preserved

@@ -1,4 +1,3 @@
-use Rattle.std.proofs.Common.{Ok, Err, ◌∙◌, sym}
 use Rattle.words.proofs.Readings.{own_checked, own_read}
 use Rattle.words.proofs.rows.round_trip.Goals as goal
 
