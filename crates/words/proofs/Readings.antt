@@ -1,18 +1,18 @@
 -- The reading of rows of words, and the law of house words. Assumes nothing.
-use Rattle.std.proofs.Common.{◌≡◌, ℕ, zero, suc, ◌+◌, ◌-◌, ◌*◌, ◌%◌, ◌<◌, ◌≤◌, min, List, [], ◌∷◌, ◌++◌, length, get_or, take, drop, Ok, Err, Result, sym, refl, ap, ◌∙◌, subst, inl, inr, append-nil, arith, MatchResult}
-use Rattle.std.proofs.lemmas.List.{take_rest, take_at, take_all, take-take, length-take, length-append, get_or-append_right, length_push}
+use Rattle.std.proofs.Common.{◌≡◌, ℕ, zero, suc, ◌+◌, ◌-◌, ◌*◌, ◌%◌, ◌<◌, ◌≤◌, min, List, [], ◌∷◌, ◌++◌, length, get_or, take, drop, ℤ, pos, Ok, Err, Result, sym, refl, ap, ◌∙◌, subst, inl, inr, append-nil, arith, MatchResult}
+use Rattle.std.proofs.lemmas.List.{take_rest, take_at, take_all, take-take, length-take, length-drop, length-append, nil_from_length, get_or-append_right, length_push}
 use Rattle.std.proofs.lemmas.List.Elements.{All-nil, All-cons, All-head, All-tail, All-push}
 use Rattle.std.proofs.lemmas.Bool.{cases_order}
 use Rattle.std.specs.List.{All}
 use Rattle.bounds.specs.declared.bound.Bound.{Bound}
 use Rattle.bounds.specs.declared.row.Row.{Row}
-use Rattle.bounds.specs.Making.{row_of}
+use Rattle.bounds.specs.Making.{Says, row_of}
 use Rattle.bounds.specs.Range.{Sound}
 use Rattle.bounds.proofs.Makes.{SameBound}
 use Rattle.words.specs.declared.fault.WordFault.{WordFault}
 use Rattle.words.specs.declared.fault.WordFault.TheVariants.{Length, Word}
-use Rattle.words.specs.Words.{row_words, writing}
-use Rattle.words.specs.Reading.{FitsAt, BreaksAt, BoundRead, RowRead, RowsRead, Checked}
+use Rattle.words.specs.Words.{head_word, part_word, row_words, writing}
+use Rattle.words.specs.Reading.{IsHead, IsPart, FitsAt, BreaksAt, BoundRead, RowRead, RowsRead, Checked}
 use Rattle.words.specs.Law.{WritingHolds, OneWriting, OneReading, OneAnswer, ReadsBack, AcceptedIsWritten, Law}
 use Rattle.words.proofs.Writings.{writing_push, length-writing, same_row, row_fits, front3}
 
@@ -142,6 +142,25 @@ one_answer ws (Err (Length m)) (Err (Word p)) (odd, e) (whole, h) = absurd (odd 
 one_answer ws (Err (Word p)) (Ok n) (whole, h) (whole', g) = one_read (take 196605 ws) (Err (Word p)) (Ok n) h g
 one_answer ws (Err (Word p)) (Err (Length n)) (whole, h) (odd, e) = absurd (odd whole)
 one_answer ws (Err (Word p)) (Err (Word q)) (whole, h) (whole', g) = one_read (take 196605 ws) (Err (Word p)) (Err (Word q)) h g
+
+-- the third word breaks its row where the two before it fit
+pub third_breaks : (ws : List ℕ) → IsHead (get_or ws 0 0) → IsPart 2 (get_or ws 1 0) → (IsPart 3 (get_or ws 2 0) → ⊥) → BreaksAt ws 2
+third_breaks ws head t bad = (omega arith, fits, bad)
+  where
+    fits : (j : ℕ) → j < 2 → FitsAt j (get_or ws j 0)
+    fits zero h = head
+    fits (suc zero) h = t
+    fits (suc (suc j)) h = absurd (let e : ⊥ = omega arith in e)
+
+-- three words that say a bound's numbers are the bound's
+pub three_words : (ws : List ℕ) (b : Bound) (left right : ℕ) (t s : ℤ) → length ws ≡ 3 → Says (row_of b) (pos left) (pos right) t s
+    → get_or ws 0 0 ≡ head_word left right → get_or ws 1 0 ≡ part_word 2 t → get_or ws 2 0 ≡ part_word 3 s → row_words (row_of b) ≡ ws
+three_words ws b left right t s three says head t_word s_word =
+    let left_is : (row_of b).left ≡ left = let e = says.left_is in cc in
+    let right_is : (row_of b).right ≡ right = let e = says.right_is in cc in
+    let rest : drop 3 ws ≡ [] = nil_from_length (drop 3 ws) (omega (arith, length-drop 3 ws)) in
+    let words = front3 ws (omega arith) in
+    cc (says.t_is, says.s_is)
 
 -- the words that are used, of a buffer of any length
 used_words : (ws : List ℕ) (u k : ℕ) → u ≡ min (length ws) k → take u ws ≡ take k ws

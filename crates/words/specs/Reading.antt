@@ -26,7 +26,7 @@ FitsAt (suc (suc k)) w = IsPart 3 w
 
 -- the word at place k of the row that begins these words is the first that no bound has there
 abbrev pub BreaksAt : List ℕ → ℕ → Type 0
-BreaksAt ws k = (k < 3) × ((j : ℕ) → j < k → FitsAt j (slice_index ws j)) × (FitsAt k (slice_index ws k) → ⊥)
+BreaksAt ws k = (k < 3) × ((j : ℕ) → j < k → FitsAt j (slice_index ws j)) × (¬ FitsAt k (slice_index ws k))
 
 -- the answer to three words: the bound that has them, or the place of the first that breaks the row
 abbrev pub BoundRead : List ℕ → Result Bound WordFault → Type 0
@@ -53,7 +53,7 @@ pub record Breaks (ws : List ℕ) (p : ℕ) : Type 0 where
   pub sound : All Sound before
   pub after : List ℕ
   pub cut : ws ≡ writing before ++ after
-  pub begins : slice_index_or after 0 0 ≡ 0 → ⊥
+  pub begins : slice_index_or after 0 0 ≢ 0
   pub k : ℕ
   pub within : k < length after
   pub breaks : BreaksAt after k

@@ -16,6 +16,7 @@ fn count_rows(words: &[u32]) -> Result<usize, WordFault>
     requires few { length words.now ≤ 196605 }
     ensures { RowsRead words.now result }
 {
+    // The rows are counted here by hand, since the words are taken apart while they are checked, and no word is read twice.
     let mut unread = words;
     let mut rows = 0;
     while let [head, t, s, rest @ ..] = unread

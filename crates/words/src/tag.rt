@@ -1,4 +1,4 @@
-// What lies below the two top bits of a word.
+// The two top bits of a bound's words, and the points and parts below them.
 ghost use Rattle.std.specs.Prelude.{◌≡◌, ◌≤◌, MatchOption};
 ghost use Rattle.bounds.specs.Range.{Part};
 ghost use Rattle.words.specs.Reading.{IsHead, IsPart};
@@ -23,7 +23,7 @@ pub(crate) enum Tag {
 impl Tag {
     // The part in a word under this tag, or nothing where no bound has this word. The shift to the right carries the sign.
     pub(crate) fn part(self, word: u32) -> Option<i32>
-        ensures { MatchOption result (IsPart (bits_of self) word → ⊥) (λ z. Part z × (word ≡ part_word (bits_of self) z)) }
+        ensures { MatchOption result (¬ IsPart (bits_of self) word) (λ z. Part z × (word ≡ part_word (bits_of self) z)) }
     {
         let z = (word << 2).cast_signed() >> 2;
         (word / TOP == self as u32 && z.unsigned_abs() <= GREATEST_PART).then_some(z)
@@ -32,7 +32,7 @@ impl Tag {
 
 // The left and the right point of a head, or nothing where no bound has this head.
 pub(crate) fn points(head: u32) -> Option<(u16, u16)>
-    ensures { MatchOption result (IsHead head → ⊥) (λ p. (p.0 ≤ 4095) × (p.1 ≤ 4095) × (head ≡ head_word p.0 p.1)) }
+    ensures { MatchOption result (¬ IsHead head) (λ p. (p.0 ≤ 4095) × (p.1 ≤ 4095) × (head ≡ head_word p.0 p.1)) }
 {
     let left = (head / LEFT % LEFT) as u16;
     let right = (head % LEFT) as u16;
