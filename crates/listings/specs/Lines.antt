@@ -1,8 +1,7 @@
 -- What a line of a listing holds: a note, a bound, or neither, and why. Assumes nothing.
-use Rattle.std.specs.Prelude.{◌≡◌, ℕ, List, [], ◌∷◌, Ok, Err, Result, slice_index}
+use Rattle.std.specs.Prelude.{◌≡◌, ℕ, List, [], ◌∷◌, ℤ, Ok, Err, Result, slice_index}
 use Rattle.bounds.specs.declared.bound.Bound.{Bound as BoundT}
 use Rattle.bounds.specs.Making.{Made, row_of}
-use Rattle.lines.specs.declared.listing.Figures.{Figures}
 use Rattle.lines.specs.Fields.{fields}
 use Rattle.lines.specs.Listing.{FourNumbers, ThreeWords}
 use Rattle.words.specs.Words.{row_words}
@@ -16,9 +15,9 @@ use Rattle.listings.specs.declared.task.Task.TheVariants.{Write, Read, RoundTrip
 
 -- the bound of four decimal numbers: they make it, or one is unreadable, or one is out of range
 abbrev pub BoundLine : List ℕ → Result BoundT ListingFault → Type 0
-BoundLine line (Ok b) = (f : Figures) × FourNumbers (fields line) (Ok f) × Made f.left f.right f.t f.s (Ok b)
+BoundLine line (Ok b) = (left : ℤ) × (right : ℤ) × (t : ℤ) × (s : ℤ) × FourNumbers (fields line) (Ok (left ∷ (right ∷ (t ∷ (s ∷ []))))) × Made left right t s (Ok b)
 BoundLine line (Err (Line e)) = FourNumbers (fields line) (Err e)
-BoundLine line (Err (Bound e)) = (f : Figures) × FourNumbers (fields line) (Ok f) × Made f.left f.right f.t f.s (Err e)
+BoundLine line (Err (Bound e)) = (left : ℤ) × (right : ℤ) × (t : ℤ) × (s : ℤ) × FourNumbers (fields line) (Ok (left ∷ (right ∷ (t ∷ (s ∷ []))))) × Made left right t s (Err e)
 BoundLine line (Err (Word e)) = ⊥
 
 -- the bound of three words: they are its words, or one is unreadable, or one breaks the row
