@@ -2,4 +2,5 @@ pub mod Cuts
 pub mod Values
 pub mod Front
 pub mod Keeping
+pub mod Takes
 pub mod Written
