@@ -1,3 +1,4 @@
+pub mod Arrays
 pub mod Cuts
 pub mod Values
 pub mod Front

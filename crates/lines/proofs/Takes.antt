@@ -1,5 +1,5 @@
 -- Values that are taken one by one from the fields of a line.
-use Rattle.std.proofs.Common.{◌≡◌, ℕ, zero, suc, ◌+◌, ◌-◌, ◌<◌, List, [], ◌∷◌, ◌++◌, length, take, set, Ok, Err, Some, Option, Result, refl, ap, sym, subst, ◌∙◌, inl, inr, append_assoc, append-nil, add-one, arith}
+use Rattle.std.proofs.Common.{◌≡◌, ℕ, zero, suc, ◌+◌, ◌-◌, ◌<◌, List, [], ◌∷◌, ◌++◌, length, take, set, Ok, Err, Some, Option, Result, refl, ap, sym, ◌∙◌, inl, inr, append_assoc, add-one, arith}
 use Rattle.std.proofs.lemmas.List.{take_all, take_more_set}
 use Rattle.lines.specs.declared.fault.LineFault.{LineFault}
 use Rattle.lines.specs.Faults.{place_of}

@@ -6,7 +6,7 @@ use arrayvec::ArrayVec;
 
 const KEPT_BYTES: usize = 48;
 
-#[derive(Drop)]
+#[derive(Default, Drop)]
 pub struct Line {
     bytes: ArrayVec<u8, KEPT_BYTES>,
 }
@@ -16,9 +16,7 @@ impl Line {
     pub fn new() -> Line
         ensures { kept result ≡ [] }
     {
-        Line {
-            bytes: ArrayVec::new(),
-        }
+        Line::default()
     }
 
     // One byte more, which is kept where there is room: what is kept goes on to be the front of the line that has come.
