@@ -1,5 +1,6 @@
 -- Reads of lists, and what the checks of times and of chains keep from turn to turn. Assumes nothing.
-use Rattle.std.proofs.Common.{◌≡◌, ℕ, ◌+◌, ◌*◌, ◌<◌, ◌≤◌, Bool, false, List, [], ◌∷◌, map, length, get_or, take, drop, Some, None, Decides, Option, sym, refl, ap, ◌∙◌, subst, ⊎_elim, arith, MatchOption}
+use Rattle.std.proofs.Common.{◌≡◌, ℕ, ◌+◌, ◌*◌, ◌<◌, ◌≤◌, Bool, false, List, [], ◌∷◌, map, length, get_or, take, drop, Some, None, Decides, Option, sym, refl, ap, ◌∙◌, subst, ⊎_elim, arith, Bor, option_copied}
+use Rattle.std.specs.Slice.{IsItemAt}
 use Rattle.std.proofs.lemmas.Simd.{map-map}
 use Rattle.std.specs.List.{All}
 use Rattle.std.proofs.lemmas.List.Elements.{All-map, All-nil, All-cons, All-head, All-tail}
@@ -53,11 +54,11 @@ module _ {X : Type 0} (k : Kind) (means : X → Exact k) where
     read_map (bound_of k means) row i e (bound_of k means e) at.0 at.1,
   )
 
-  -- the edge of the book with a number is what the link with that number names
-  pub numbered_named : (book : List (Edge X)) (posted : Edge X) (i : ℕ) (r : Option (Edge X)) → MatchOption r (length book ≤ i) (Numbered book i)
-      → LinkRead k means book posted (Book i) r
-  numbered_named book posted i None past = λ b at. let low : i < length (bounds_of k means book) = at.0 in omega (arith, length-map book (bound_of k means))
-  numbered_named book posted i (Some e) at = numbered_bound book i e at
+  -- what `get` lends at a number, copied, is the edge that the link with that number names
+  pub copied_named : (book : List (Edge X)) (posted : Edge X) (i : ℕ) (r : Option (Bor (Edge X))) → IsItemAt book i r
+      → LinkRead k means book posted (Book i) (option_copied r)
+  copied_named book posted i None at = λ b named. let low : i < length (bounds_of k means book) = named.0 in omega (arith, at, length-map book (bound_of k means))
+  copied_named book posted i (Some e) at = numbered_bound book i e.now (at.3.0, at.1)
 
   module _ (row : List (Edge X)) (to : ℕ) (at i : ℕ) (e : Edge X) (h : i < length row) (is : e ≡ get_or row i e) where
     -- what is left leads on from `at` exactly when its first edge leaves `at`, and the others lead on from there
@@ -67,16 +68,16 @@ module _ {X : Type 0} (k : Kind) (means : X → Exact k) where
     pub leads_more : (e.left ≡ at) × Walk e.right (bounds_of k means (drop (i + 1) row)) to → Walk at (bounds_of k means (drop i row)) to
     leads_more = subst (λ l. Walk at (bounds_of k means l) to) (sym (drop_read row i e h is))
 
-  module _ (row : List (Edge X)) (i : ℕ) (e : Edge X) (h : i < length row) (is : e ≡ get_or row i e) where
-    -- the left points of what is left are apart exactly when the first is none of the others, and those are apart
-    pub apart_first : Apart (map (λ e. e.left) (drop i row)) → All (λ x. ¬ (e.left ≡ x.left)) (drop (i + 1) row) × Apart (map (λ e. e.left) (drop (i + 1) row))
+  module _ (row : List (Edge X)) (e : Edge X) (others : List (Edge X)) (is : row ≡ e ∷ others) where
+    -- the left points of a row are apart exactly when the first is none of the others, and those are apart
+    pub apart_first : Apart (map (λ x. x.left) row) → All (λ x. ¬ (e.left ≡ x.left)) others × Apart (map (λ x. x.left) others)
     apart_first a =
-        let both = subst (λ (l : List (Edge X)). Apart (map (λ x. x.left) l)) (drop_read row i e h is) a in
-        (all_unmap (λ p. ¬ (e.left ≡ p)) (λ x. x.left) (drop (i + 1) row) both.0, both.1)
+        let both = subst (λ (l : List (Edge X)). Apart (map (λ x. x.left) l)) is a in
+        (all_unmap (λ p. ¬ (e.left ≡ p)) (λ x. x.left) others both.0, both.1)
 
-    pub apart_more : All (λ x. ¬ (e.left ≡ x.left)) (drop (i + 1) row) → Apart (map (λ e. e.left) (drop (i + 1) row)) → Apart (map (λ e. e.left) (drop i row))
-    apart_more others apart =
-        subst (λ (l : List (Edge X)). Apart (map (λ x. x.left) l)) (sym (drop_read row i e h is)) (All-map (λ p. ¬ (e.left ≡ p)) (λ x. x.left) (drop (i + 1) row) others, apart)
+    pub apart_more : All (λ x. ¬ (e.left ≡ x.left)) others → Apart (map (λ x. x.left) others) → Apart (map (λ x. x.left) row)
+    apart_more none apart =
+        subst (λ (l : List (Edge X)). Apart (map (λ x. x.left) l)) (sym is) (All-map (λ p. ¬ (e.left ≡ p)) (λ x. x.left) others none, apart)
 
   -- a cycle whose sum is s is a chain exactly when s is below zero
   pub chain_decided : (row : List (Edge X)) (r : Bool) (s : Exact k) → Cycle k means row

@@ -14,23 +14,19 @@ use delays::Delay;
 fn never_leaves<D: Delay>(row: &[Edge<D>], point: usize) -> bool
     ensures { Decides result (All (λ e. ¬ (point ≡ e.left)) row.now) }
 {
-    for edge in row {
-        if edge.left == point {
-            return false;
-        }
-    }
-    true
+    row.iter().all(|edge| edge.left != point)
 }
 
 // Whether no left point comes twice.
 fn lefts_apart<D: Delay>(row: &[Edge<D>]) -> bool
     ensures { Decides result (Apart (map (λ e. e.left) row.now)) }
 {
-    for i in 0..row.len() {
-        let edge = row[i];
-        if !never_leaves(&row[i + 1..], edge.left) {
+    let mut rest = row;
+    while let Some((edge, others)) = rest.split_first() {
+        if !never_leaves(others, edge.left) {
             return false;
         }
+        rest = others;
     }
     true
 }
@@ -39,10 +35,9 @@ fn lefts_apart<D: Delay>(row: &[Edge<D>]) -> bool
 fn is_cycle<D: Delay>(row: &[Edge<D>]) -> bool
     ensures { Decides result (Cycle D.kind D.means row.now) }
 {
-    if row.is_empty() {
+    let [first, ..] = row else {
         return true;
-    }
-    let first = row[0];
+    };
     leads(row, first.left, first.left) && lefts_apart(row)
 }
 
@@ -64,8 +59,6 @@ pub fn is_chain<D: Delay>(row: &[Edge<D>]) -> Option<bool>
     if !is_cycle(row) {
         return Some(false);
     }
-    match sum(row) {
-        Some(sum) => Some(below_zero(sum)),
-        None => None,
-    }
+    let sum = sum(row)?;
+    Some(below_zero(sum))
 }

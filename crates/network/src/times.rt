@@ -23,11 +23,7 @@ pub enum Mismatch {
 fn time_at<D: Delay>(times: &[D], point: usize) -> D
     ensures { D.means result ≡ time_of_point D.kind D.means times.now point }
 {
-    if point < times.len() {
-        times[point]
-    } else {
-        D::zero()
-    }
+    times.get(point).copied().unwrap_or(D::zero())
 }
 
 // Whether the times meet the edge, or nothing exactly when the limit that it sets, the right point's time plus the delay, is past the
@@ -37,10 +33,8 @@ pub fn meets<D: Delay>(edge: Edge<D>, times: &[D]) -> Option<bool>
 {
     let left = time_at(times, edge.left);
     let right = time_at(times, edge.right);
-    match right.add(edge.delay) {
-        Some(limit) => Some(left.at_most(limit)),
-        None => None,
-    }
+    let limit = right.add(edge.delay)?;
+    Some(left.at_most(limit))
 }
 
 // The check of times, edge by edge.
@@ -50,15 +44,10 @@ fn checked<D: Delay>(edges: &[Edge<D>], times: &[D]) -> Result<(), Mismatch>
     if !equal(time_at(times, 0), D::zero()) {
         return Err(Mismatch::Start);
     }
-    for number in 0..edges.len() {
-        let edge = edges[number];
-        match meets(edge, times) {
-            None => return Err(Mismatch::Reach { number }),
-            Some(met) => {
-                if !met {
-                    return Err(Mismatch::Unmet { number });
-                }
-            }
+    for (number, edge) in edges.iter().enumerate() {
+        let met = meets(*edge, times).ok_or(Mismatch::Reach { number })?;
+        if !met {
+            return Err(Mismatch::Unmet { number });
         }
     }
     Ok(())

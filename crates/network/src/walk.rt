@@ -54,8 +54,6 @@ pub fn comes_over<D: Delay>(row: &[Edge<D>], point: usize, time: D) -> Option<bo
     if !leads(row, 0, point) {
         return Some(false);
     }
-    match sum(row) {
-        Some(sum) => Some(is_opposite(time, sum)),
-        None => None,
-    }
+    let sum = sum(row)?;
+    Some(is_opposite(time, sum))
 }

@@ -1,20 +1,21 @@
-use Rattle.std.proofs.Common.{sym, ◌∙◌, subst}
+use Rattle.std.proofs.Common.{Some, sym, ◌∙◌, subst}
 use Rattle.std.specs.List.{All}
 use Rattle.std.proofs.lemmas.List.Elements.{All-more, All-map, All-weaker}
 use Rattle.std.proofs.lemmas.List.{take_all}
 use Rattle.delays.specs.Kind.{Within}
 use Rattle.network.specs.Assignments.{Meets}
 use Rattle.network.specs.Edges.{bound_of, time_of_point}
-use Rattle.network.specs.Checks.{limit_at, Met, MetWithin}
+use Rattle.network.specs.Checks.{EdgeChecked, limit_at, Met, MetWithin}
 use Rattle.network.proofs.times.checked.Goals as goal
 
 pub loop-number-preserved : goal.loop-number-preserved
 loop-number-preserved g c =
-    let k = g.D.Delay.kind in
+    let d = g.D.Delay in
     let times = c.args.times.now in
-    let P = MetWithin k g.D.Delay.means times in
-    let met = c.in-Some.ensures in
-    All-more P c.args.edges.now c.loop-number.number c.index-edges-number.result c.loop-number-test.true c.loop-number.invariant
+    let edge = c.index-edges-number.result in
+    let P = MetWithin d.kind d.means times in
+    let met = subst (EdgeChecked d.kind d.means times edge) {y = Some c.in_ok-met.met} c.in_ok-met.ensures.ok_part c.meets.ensures in
+    All-more P c.args.edges.now c.loop-number.number edge c.loop-number-test.true c.loop-number.invariant
     (subst P c.index-edges-number.is (met.0, met.1.0 c.if-not-met.false))
 
 pub returns : goal.returns
