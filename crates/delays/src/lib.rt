@@ -3,6 +3,7 @@
 
 pub mod delay;
 pub mod fault;
+mod number;
 pub mod ranked;
 pub mod ticks;
 pub mod totals;

@@ -11,10 +11,7 @@ use crate::fault::KindFault;
 pub fn read_pair<D: Delay>(t: i64, s: i64) -> Result<D, KindFault>
     ensures { PairRead D.kind D.means t s result }
 {
-    match D::read(t, s) {
-        Some(delay) => Ok(delay),
-        None => Err(KindFault::Unread),
-    }
+    D::read(t, s).ok_or(KindFault::Unread)
 }
 
 // The sum of a row of delays, or nothing where a sum on the way leaves the reach. That of at most 256 delays, none of a size
