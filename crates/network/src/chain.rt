@@ -1,7 +1,6 @@
 // Whether a row of edges is a chain.
 ghost use Rattle.std.specs.Prelude.{◌≡◌, ◌≤◌, true, map, length, All, is_some, Decides};
 ghost use Rattle.network.specs.Checks.{Cycle, ChainChecked};
-ghost use Rattle.network.specs.Assignments.{Lt};
 ghost use Rattle.network.specs.Walks.{Apart};
 ghost use Rattle.network.specs.Chains.{ChainTheory};
 ghost use Rattle.network.specs.Rounds.{RoundsRepeat};
@@ -41,12 +40,6 @@ fn is_cycle<D: Delay>(row: &[Edge<D>]) -> bool
     leads(row, first.left, first.left) && lefts_apart(row)
 }
 
-fn below_zero<D: Delay>(sum: D) -> bool
-    ensures { Decides result (Lt D.kind (D.means sum) D.kind.zero) }
-{
-    !D::zero().at_most(sum)
-}
-
 // Whether the row is a chain: closed, with no left point twice and a sum below zero. Nothing is answered exactly when the row is closed
 // with no left point twice and a sum on the way leaves the reach; for at most 256 edges, none with a delay of a size above the greatest,
 // there is always an answer. Edges that hold a chain are met by no times.
@@ -60,5 +53,5 @@ pub fn is_chain<D: Delay>(row: &[Edge<D>]) -> Option<bool>
         return Some(false);
     }
     let sum = sum(row)?;
-    Some(below_zero(sum))
+    Some(sum < D::zero())
 }

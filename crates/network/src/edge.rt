@@ -1,5 +1,5 @@
 // Bounds as values.
-ghost use Rattle.std.specs.Prelude.{◌≡◌, Decides};
+ghost use Rattle.std.specs.Prelude.{◌≡◌};
 ghost use Rattle.network.specs.Bounds.{floor_of};
 ghost use Rattle.network.specs.Edges.{bound_of, InForceRead};
 
@@ -36,11 +36,4 @@ pub fn in_force<D: Delay>(book: &[Edge<D>], points: usize, number: usize) -> Opt
             (point < points).then(|| floor(point))
         }
     }
-}
-
-// Whether two values mean one delay.
-pub(crate) fn equal<D: Delay>(a: D, b: D) -> bool
-    ensures { Decides result (D.means a ≡ D.means b) }
-{
-    a.at_most(b) && b.at_most(a)
 }

@@ -5,7 +5,7 @@ ghost use Rattle.network.specs.Checks.{EdgeChecked, TimesChecked};
 ghost use Rattle.network.specs.Walks.{WalkTheory};
 ghost use Rattle.network.specs.Consistency.{Consistency};
 
-use crate::edge::{Edge, equal};
+use crate::edge::Edge;
 use delays::Delay;
 
 // Why times are no assignment that meets the edges. It is the answer of a check, so it has no fault number.
@@ -34,20 +34,21 @@ pub fn meets<D: Delay>(edge: Edge<D>, times: &[D]) -> Option<bool>
     let left = time_at(times, edge.left);
     let right = time_at(times, edge.right);
     let limit = right.add(edge.delay)?;
-    Some(left.at_most(limit))
+    Some(left <= limit)
 }
 
 // The check of times, edge by edge.
 fn checked<D: Delay>(edges: &[Edge<D>], times: &[D]) -> Result<(), Mismatch>
     ensures { TimesChecked D.kind D.means edges.now times.now result }
 {
-    if !equal(time_at(times, 0), D::zero()) {
+    if time_at(times, 0) != D::zero() {
         return Err(Mismatch::Start);
     }
     for (number, edge) in edges.iter().enumerate() {
-        let met = meets(*edge, times).ok_or(Mismatch::Reach { number })?;
-        if !met {
-            return Err(Mismatch::Unmet { number });
+        match meets(*edge, times) {
+            Some(true) => {}
+            Some(false) => return Err(Mismatch::Unmet { number }),
+            None => return Err(Mismatch::Reach { number }),
         }
     }
     Ok(())

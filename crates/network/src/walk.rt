@@ -5,7 +5,7 @@ ghost use Rattle.network.specs.Checks.{RowSummed, ComesChecked};
 ghost use Rattle.network.specs.Walks.{Walk};
 ghost use Rattle.network.specs.Earliest.{EarliestTheory};
 
-use crate::edge::{Edge, equal};
+use crate::edge::Edge;
 use delays::Delay;
 
 // The sum of the delays of a row, or nothing where a sum on the way leaves the reach. That of at most 256 edges, none with a delay of a
@@ -38,13 +38,6 @@ pub(crate) fn leads<D: Delay>(row: &[Edge<D>], from: usize, to: usize) -> bool
     at == to
 }
 
-// Whether the time is the opposite of the sum.
-fn is_opposite<D: Delay>(time: D, sum: D) -> bool
-    ensures { Decides result (D.means time ≡ D.kind.opposite (D.means sum)) }
-{
-    equal(time, sum.opposite())
-}
-
 // Whether the row leads from point 0 to the point, and the time is the opposite of its sum. Nothing is answered exactly when the row leads
 // there and a sum on the way leaves the reach. Where times meet a list of edges that has those of the row, such a time is the earliest.
 pub fn comes_over<D: Delay>(row: &[Edge<D>], point: usize, time: D) -> Option<bool>
@@ -55,5 +48,5 @@ pub fn comes_over<D: Delay>(row: &[Edge<D>], point: usize, time: D) -> Option<bo
         return Some(false);
     }
     let sum = sum(row)?;
-    Some(is_opposite(time, sum))
+    Some(time == sum.opposite())
 }

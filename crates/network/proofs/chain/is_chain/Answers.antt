@@ -1,3 +1,6 @@
+use Rattle.std.proofs.Common.{rules, Decides}
+use Rattle.network.specs.Assignments.{Lt}
+use Rattle.network.proofs.Checking.{chain_decided, not_past}
 use Rattle.network.proofs.Repeating.{rounds_repeat}
 use Rattle.network.proofs.Theorems.{chain_theory}
 use Rattle.network.proofs.chain.is_chain.Goals as goal
@@ -13,6 +16,16 @@ returns-in_err-sum-clause-chains g c = chain_theory g.met.D.Delay.lawful
 
 pub returns-in_err-sum-clause-rounds : goal.returns-in_err-sum-clause-rounds
 returns-in_err-sum-clause-rounds g c = rounds_repeat g.met.D.Delay.lawful
+
+pub returns-clause-answer : goal.returns-clause-answer
+returns-clause-answer g c =
+    let d = g.D.Delay in
+    let row = c.args.row.now in
+    let sums = c.in_ok-sum.ensures.sums in
+    let below : Decides c.lt.result (Lt d.kind (d.means c.in_ok-sum.sum) d.kind.zero) = search rules in (
+      chain_decided d.kind d.means row c.lt.result (d.means c.in_ok-sum.sum) (c.is_cycle.ensures.0 c.if-not-is_cycle.false) sums.0 below,
+      λ cycle past. not_past d.kind d.means row sums.1 past,
+    )
 
 pub returns-clause-chains : goal.returns-clause-chains
 returns-clause-chains g c = chain_theory g.met.D.Delay.lawful

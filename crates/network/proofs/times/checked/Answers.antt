@@ -1,4 +1,4 @@
-use Rattle.std.proofs.Common.{Some, sym, ◌∙◌, subst}
+use Rattle.std.proofs.Common.{rules, ◌≡◌, Some, sym, ◌∙◌, subst}
 use Rattle.std.specs.List.{All}
 use Rattle.std.proofs.lemmas.List.Elements.{All-more, All-map, All-weaker}
 use Rattle.std.proofs.lemmas.List.{take_all}
@@ -10,13 +10,11 @@ use Rattle.network.proofs.times.checked.Goals as goal
 
 pub loop-number-preserved : goal.loop-number-preserved
 loop-number-preserved g c =
-    let d = g.D.Delay in
-    let times = c.args.times.now in
-    let edge = c.index-edges-number.result in
-    let P = MetWithin d.kind d.means times in
-    let met = subst (EdgeChecked d.kind d.means times edge) {y = Some c.in_ok-met.met} c.in_ok-met.ensures.ok_part c.meets.ensures in
-    All-more P c.args.edges.now c.loop-number.number edge c.loop-number-test.true c.loop-number.invariant
-    (subst P c.index-edges-number.is (met.0, met.1.0 c.if-not-met.false))
+    let P = MetWithin g.D.Delay.kind g.D.Delay.means c.args.times.now in
+    let edge = c.index-edges-number in
+    let met = c.in-Some-true.ensures in
+    All-more P c.args.edges.now c.loop-number.number edge.result c.loop-number-test.true c.loop-number.invariant
+    (subst P edge.is (met.0, met.1.0 c.in-Some-true.field-0-test))
 
 pub returns : goal.returns
 returns g c =
@@ -25,9 +23,10 @@ returns g c =
     let edges = c.args.edges.now in
     let times = c.args.times.now in
     let P = MetWithin k means times in
+    let at_zero : means c.time_at.result ≡ means c.zero.result = search rules in
     let met : All P edges = subst (All P) (take_all _ edges c.loop-number-test.false) c.loop-number.invariant in (
       record {
-        zero_first = sym c.time_at.ensures ∙ (c.equal.ensures.0 c.if-not-equal.false ∙ c.zero.ensures);
+        zero_first = sym c.time_at.ensures ∙ (at_zero ∙ c.zero.ensures);
         meets = All-map (Meets k (time_of_point k means times)) (bound_of k means) edges (All-weaker P (Met k means times) (λ e h. h.1) edges met);
       },
       All-weaker P (λ e. Within k (limit_at k means times e)) (λ e h. h.0) edges met,
