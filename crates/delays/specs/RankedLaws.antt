@@ -77,6 +77,7 @@ pub ranked_ordered : (t s u v : ℤ) → is_some_and is_le (partial_ordering_the
 ranked_ordered t s u v = grind (arith, ints)
 
 pub ranked_equal : (t s u v : ℤ) → Decides (int_eq t u && int_eq s v) (rank t s ≡ rank u v)
-ranked_equal t s u v =
-    (λ e. rank_same ((signed_Decides t u).0 (first_so (int_eq t u) (int_eq s v) e)) ((signed_Decides s v).0 (second_so (int_eq t u) (int_eq s v) e)),
-    λ e. let p = (signed_Decides t u).1 (ap first e) in let q = (signed_Decides s v).1 (ap second e) in ap (λ b. b && int_eq s v) p ∙ q)
+ranked_equal t s u v = (
+  λ e. rank_same ((signed_Decides t u).0 (first_so (int_eq t u) (int_eq s v) e)) ((signed_Decides s v).0 (second_so (int_eq t u) (int_eq s v) e)),
+  λ e. let p = (signed_Decides t u).1 (ap first e) in let q = (signed_Decides s v).1 (ap second e) in ap (λ b. b && int_eq s v) p ∙ q,
+)

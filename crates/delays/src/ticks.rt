@@ -49,7 +49,9 @@ impl Delay for Ticks {
     }
 
     fn add(self, other: Ticks) -> Option<Ticks> {
-        Some(Ticks { t: self.t.checked_add(other.t)? })
+        Some(Ticks {
+            t: self.t.checked_add(other.t)?,
+        })
     }
 
     fn parts(self) -> (i64, i64) {
