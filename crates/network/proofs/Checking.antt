@@ -7,14 +7,13 @@ use Rattle.std.proofs.lemmas.List.Elements.{All-map, All-nil, All-cons, All-head
 use Rattle.std.proofs.lemmas.List.{get_or-map, get_or_past, length-map, drop_more}
 use Rattle.std.proofs.lemmas.Bool.{both_ways, cases_lt}
 use Rattle.delays.specs.Kind.{Kind, Exact, Lawful, Within}
-use Rattle.delays.specs.Totals.{total}
-use Rattle.delays.proofs.TotalLaws.{first_total, total_next, within_none as total_none, small_within as total_small}
+use Rattle.delays.specs.Totals.{total, Summed}
 use Rattle.network.specs.Bounds.{Numbered}
 use Rattle.network.specs.Assignments.{Lt}
 use Rattle.network.specs.Walks.{sum_of, Walk, lefts, Apart}
 use Rattle.network.specs.Chains.{Chain}
 use Rattle.network.specs.Edges.{bound_of, bounds_of, LinkRead}
-use Rattle.network.specs.Checks.{sum_upto, PastReach, Cycle}
+use Rattle.network.specs.Checks.{sum_upto, PastReach, RowSummed, Cycle}
 use Rattle.network.specs.declared.link.Link.TheVariants.{Book}
 use Rattle.network.specs.declared.edge.Edge.{Edge}
 
@@ -46,6 +45,11 @@ module _ {X : Type 0} (k : Kind) (means : X → Exact k) where
 
   pub sum_is : (row : List (Edge X)) → sum_of k (bounds_of k means row) ≡ total k (map (λ e. means e.delay) row)
   sum_is row = ap (total k) (map-map (λ b. b.delay) (bound_of k means) row)
+
+  -- what is so of the sums of a row's delays is so of those of its bounds
+  pub row_summed : (row : List (Edge X)) (r : Option X) → Summed k means (λ e. means e.delay) row r → RowSummed k means row r
+  row_summed row None past = (past.0, past.1, subst (λ x. k.reach < k.size x) (sym (sum_is (take past.0 row))) past.2)
+  row_summed row (Some v) sums = (sums.0 ∙ sym (sum_is row), λ n h. subst (Within k) (sym (sum_is (take n row))) (sums.1 n h))
 
   -- the bound of an edge has the edge's number
   pub numbered_bound : (row : List (Edge X)) (i : ℕ) (e : Edge X) → Numbered row i e → Numbered (bounds_of k means row) i (bound_of k means e)
@@ -101,24 +105,3 @@ module _ {X : Type 0} (k : Kind) (means : X → Exact k) where
   -- sums within the reach are not past it
   pub not_past : (row : List (Edge X)) → ((n : ℕ) → n ≤ length row → Within k (sum_upto k means row n)) → PastReach k means row → ⊥
   not_past row within past = let here : Within k (sum_upto k means row past.0) = within past.0 past.1 in let over = past.2 in omega arith
-
--- The sum of a row is that of its delays, so what `delays` proves of sums of values holds of it.
-module _ {k : Kind} (laws : Lawful k) {X : Type 0} (means : X → Exact k) (row : List (Edge X)) where
-  upto_is : (n : ℕ) → sum_upto k means row n ≡ first_total laws (λ e. means e.delay) row n
-  upto_is n = sum_is k means (take n row)
-
-  pub sum_next : (i : ℕ) (e : Edge X) {s : Exact k} → i < length row
-      → e ≡ get_or row i e → s ≡ sum_upto k means row i → k.sum s (means e.delay) ≡ sum_upto k means row (i + 1)
-  sum_next i e h is so_far = total_next laws (λ e. means e.delay) row h is (so_far ∙ upto_is i) ∙ sym (upto_is (i + 1))
-
-  pub within_none : (n : ℕ) → n ≤ 0 → Within k (sum_upto k means row n)
-  within_none n h = subst (Within k) (sym (upto_is n)) (total_none laws (λ e. means e.delay) row n h)
-
-  pub within_next : (i : ℕ) → ((n : ℕ) → n ≤ i → Within k (sum_upto k means row n))
-      → Within k (sum_upto k means row (i + 1)) → (n : ℕ) → n ≤ i + 1 → Within k (sum_upto k means row n)
-  within_next i before next n h =
-      ⊎_elim (λ more. let same : i + 1 ≡ n = omega arith in subst (λ m. Within k (sum_upto k means row m)) same next) (λ less. before n less) (cases_lt i n)
-
-  pub small_within : 256 * k.greatest ≤ k.reach → length row ≤ 256
-      → All (λ e. k.size (means e.delay) ≤ k.greatest) row → (n : ℕ) → Within k (sum_upto k means row n)
-  small_within room few small n = subst (Within k) (sym (upto_is n)) (total_small laws (λ e. means e.delay) row room few small n)

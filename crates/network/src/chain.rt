@@ -1,5 +1,6 @@
 // Whether a row of edges is a chain.
-ghost use Rattle.std.specs.Prelude.{◌≡◌, ◌≤◌, true, map, length, All, is_some, Decides};
+ghost use Rattle.std.specs.Prelude.{◌≡◌, map, All, Decides};
+ghost use Rattle.delays.specs.Totals.{SmallAnswered};
 ghost use Rattle.network.specs.Checks.{Cycle, ChainChecked};
 ghost use Rattle.network.specs.Walks.{Apart};
 ghost use Rattle.network.specs.Chains.{ChainTheory};
@@ -45,7 +46,7 @@ fn is_cycle<D: Delay>(row: &[Edge<D>]) -> bool
 // there is always an answer. Edges that hold a chain are met by no times.
 pub fn is_chain<D: Delay>(row: &[Edge<D>]) -> Option<bool>
     ensures answer { ChainChecked D.kind D.means row.now result }
-    ensures small { length row.now ≤ 256 → All (λ e. D.kind.size (D.means e.delay) ≤ D.kind.greatest) row.now → is_some result ≡ true }
+    ensures small { SmallAnswered D.kind (λ e. D.means e.delay) row.now result }
     ensures chains { ChainTheory D.kind }
     ensures rounds { RoundsRepeat D.kind }
 {

@@ -3,7 +3,7 @@ ghost use Rattle.std.specs.Prelude.{◌≡◌};
 ghost use Rattle.network.specs.Bounds.{floor_of};
 ghost use Rattle.network.specs.Edges.{bound_of, InForceRead};
 
-use delays::Delay;
+use delays::{Delay, HasDelay};
 
 // A bound between two points: left minus right is at most the delay.
 #[derive(Clone, Copy, PartialEq, Eq, Debug)]
@@ -11,6 +11,14 @@ pub struct Edge<D> {
     pub left: usize,
     pub right: usize,
     pub delay: D,
+}
+
+impl<D: Delay> HasDelay<D> for Edge<D> {
+    ghost delay_of = { λ e. e.delay };
+
+    fn delay(&self) -> D {
+        self.delay
+    }
 }
 
 // The floor of a point: point 0 comes no later than it.
