@@ -79,6 +79,7 @@ impl TryFrom<u32> for Link {
 }
 
 // The edge that the link names, or nothing exactly when the book has no bound with its number.
+#[tactic(auto, using(crate::proofs::Checking::copied_named))]
 pub fn edge_of<D: Delay>(link: Link, book: &[Edge<D>], posted: Edge<D>) -> Option<Edge<D>>
     ensures { LinkRead D.kind D.means book.now posted link result }
 {
