@@ -25,10 +25,6 @@ answers_no never = (λ e. absurd (both_ways false refl e), λ p. absurd (never p
 pub read_map : {X Y : Type 0} (f : X → Y) (xs : List X) (i : ℕ) (x : X) (d : Y) → i < length xs → x ≡ get_or xs i x → f x ≡ get_or (map f xs) i d
 read_map f xs i x d h is = ap f is ∙ sym (get_or-map f xs i x d h)
 
--- past its end a mapped list has the default
-pub read_past : {X Y : Type 0} (f : X → Y) (xs : List X) (i : ℕ) (d : Y) → length xs ≤ i → d ≡ get_or (map f xs) i d
-read_past f xs i d h = sym (get_or_past (map f xs) i d (rw (length-map xs f) h))
-
 -- what is left from a place on begins with the element there
 pub drop_read : {X : Type 0} (xs : List X) (i : ℕ) (x : X) → i < length xs → x ≡ get_or xs i x → drop i xs ≡ x ∷ drop (i + 1) xs
 drop_read xs i x h is = drop_more xs i x h ∙ ap (λ y. y ∷ drop (i + 1) xs) (sym is)

@@ -1,11 +1,14 @@
 // The bounds of a chain as they are named to a caller, and their words.
-ghost use Rattle.std.specs.Prelude.{◌≡◌, ◌+◌, ◌*◌, ◌^◌, ◌<◌, ◌≤◌, MatchResult};
+ghost use Rattle.std.specs.Prelude.{◌≡◌, Some, ◌+◌, ◌*◌, ◌^◌, ◌<◌, ◌≤◌, MatchResult};
 ghost use Rattle.network.specs.Edges.{LinkRead};
 ghost use Rattle.network.specs.Links.{low_bits, HasWord, OneWord, OneLink};
+ghost use Rattle.network.specs.Reasons.{no_word_reason, no_link_reason};
 ghost use Rattle.network.specs.declared.link.Link.{Link as AnyLink};
 
 use crate::edge::{Edge, floor};
 use delays::Delay;
+use std::error::Error;
+use std::fmt;
 
 // A bound of a chain.
 #[derive(Clone, Copy, PartialEq, Eq, Debug)]
@@ -25,6 +28,26 @@ pub struct NoWord;
 // A word that no link has.
 #[derive(Clone, Copy, PartialEq, Eq, Debug)]
 pub struct NoLink;
+
+impl fmt::Display for NoWord {
+    ghost output = { λ _. Some no_word_reason };
+
+    fn fmt<W: fmt::Write>(&self, f: &mut fmt::Formatter<W>) -> fmt::Result {
+        write!(f, "the number of the link is 2^30 or more")
+    }
+}
+
+impl Error for NoWord {}
+
+impl fmt::Display for NoLink {
+    ghost output = { λ _. Some no_link_reason };
+
+    fn fmt<W: fmt::Write>(&self, f: &mut fmt::Formatter<W>) -> fmt::Result {
+        write!(f, "no link has this word")
+    }
+}
+
+impl Error for NoLink {}
 
 // The unit of the two top bits of a word, which is also one past the greatest number below them.
 const UNIT: u32 = 0x4000_0000;

@@ -1,5 +1,6 @@
 // Whether times meet bounds.
-ghost use Rattle.std.specs.Prelude.{◌≡◌};
+ghost use Rattle.std.specs.Prelude.{◌≡◌, Some};
+ghost use Rattle.network.specs.Reasons.{mismatch_reason};
 ghost use Rattle.network.specs.Edges.{time_of_point};
 ghost use Rattle.network.specs.Checks.{EdgeChecked, TimesChecked};
 ghost use Rattle.network.specs.Walks.{WalkTheory};
@@ -7,6 +8,8 @@ ghost use Rattle.network.specs.Consistency.{Consistency};
 
 use crate::edge::Edge;
 use delays::Delay;
+use std::error::Error;
+use std::fmt;
 
 // Why times are no assignment that meets the edges. It is the answer of a check, so it has no fault number.
 #[derive(Clone, Copy, PartialEq, Eq, Debug)]
@@ -18,6 +21,21 @@ pub enum Mismatch {
     // the number of the first edge that is not met; those before it are met
     Unmet { number: usize },
 }
+
+// What is wrong, in words.
+impl fmt::Display for Mismatch {
+    ghost output = { λ e. Some (mismatch_reason e) };
+
+    fn fmt<W: fmt::Write>(&self, f: &mut fmt::Formatter<W>) -> fmt::Result {
+        match self {
+            Mismatch::Start => write!(f, "the time of point 0 is not zero"),
+            Mismatch::Reach { number } => write!(f, "the limit of edge {number} is past the reach"),
+            Mismatch::Unmet { number } => write!(f, "edge {number} is not met"),
+        }
+    }
+}
+
+impl Error for Mismatch {}
 
 // The time of a point; points past the list are at zero.
 fn time_at<D: Delay>(times: &[D], point: usize) -> D
