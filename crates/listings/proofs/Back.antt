@@ -79,8 +79,8 @@ words_back : (r : Row) → Sound r → readings word 1 3 (fields (words_text (ro
 words_back r i =
     let t = twos_small r.t i.2 in
     let s = twos_small r.s i.3 in
-    readings_more word 1 2 (hex_text (head_word r.left r.right)) _ _ _ (hex_writes _ (omega arith))
-    (readings_more word 2 1 (hex_text (part_word 2 r.t)) _ _ _ (hex_writes _ (omega arith))
+    readings_more word 1 2 (hex_text (head_word r.left r.right)) (hex_text (part_word 2 r.t) ++ (32 ∷ hex_text (part_word 3 r.s))) _ _ (hex_writes _ (omega arith))
+    (readings_more word 2 1 (hex_text (part_word 2 r.t)) (hex_text (part_word 3 r.s)) _ _ (hex_writes _ (omega arith))
     (readings_last word 3 (hex_text (part_word 3 r.s)) _ (hex_writes _ (omega arith))))
 
 -- the line of a row's numbers is read as those numbers
@@ -98,14 +98,11 @@ numbers_no_note r i = decimal_no_note r.left _ (omega arith)
 -- what is printed for a bound is read as that bound
 pub text_returns : TextReturns
 text_returns b = (
-  (hex_no_note _ _, words_back (row_of b) b.sound),
+  (hex_no_note (head_word (row_of b).left (row_of b).right) (32 ∷ (hex_text (part_word 2 (row_of b).t) ++ (32 ∷ hex_text (part_word 3 (row_of b).s)))), words_back (row_of b) b.sound),
   (
     numbers_no_note (row_of b) b.sound,
     (
-      pos (row_of b).left,
-      pos (row_of b).right,
-      (row_of b).t,
-      (row_of b).s,
+      pos (row_of b).left ∷ (pos (row_of b).right ∷ ((row_of b).t ∷ ((row_of b).s ∷ []))),
       numbers_back (row_of b) b.sound,
       record { left_is = refl; right_is = refl; t_is = refl; s_is = refl },
     ),

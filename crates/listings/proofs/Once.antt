@@ -7,12 +7,11 @@ use Rattle.bounds.specs.Making.{Made, row_of}
 use Rattle.bounds.proofs.Makes.{SameBound, made_once}
 use Rattle.lines.specs.declared.fault.LineFault.{LineFault}
 use Rattle.lines.specs.declared.fault.LineFault.TheVariants.{Unreadable}
-use Rattle.lines.specs.declared.listing.Figures.{Figures}
 use Rattle.lines.specs.Decimal.{number}
 use Rattle.lines.specs.Hex.{word}
 use Rattle.lines.specs.Reading.{readings, listed}
 use Rattle.lines.specs.Fields.{fields}
-use Rattle.lines.specs.Listing.{figures_of, FourNumbers, ThreeWords}
+use Rattle.lines.specs.Listing.{FourNumbers, ThreeWords}
 use Rattle.words.specs.declared.fault.WordFault.{WordFault}
 use Rattle.words.specs.Words.{row_words}
 use Rattle.words.specs.Reading.{BoundRead}
@@ -26,7 +25,7 @@ use Rattle.listings.specs.declared.task.Task.{Task}
 use Rattle.listings.specs.declared.task.Task.TheVariants.{Write, Read, RoundTrip}
 use Rattle.listings.specs.Faults.{of_bound, of_word}
 use Rattle.listings.specs.Counts.{counted, none_yet}
-use Rattle.listings.specs.Lines.{BoundLine, WordsLine, LineOf, EntryOf}
+use Rattle.listings.specs.Lines.{at, FourMake, BoundLine, WordsLine, LineOf, EntryOf}
 use Rattle.listings.specs.Printing.{text_of_bound, text_of_refusal, text_of_entry}
 use Rattle.listings.specs.Sessions.{OneLine, ended, Tells, Answered, Session, Closes, OnePrinting}
 
@@ -69,59 +68,40 @@ module _ {V F : Type 0} (Reads : Result V LineFault → Type 0) (Answers : V →
       let value : w ≡ v = cc in
       rw (i, j) (raised_same up a b (answers_once v a b m (subst (λ x. Answers x b) value n)))
 
--- fields read in one way, where a value is told by its list
-listed_once : {X Y : Type 0} (values : X → List Y) → ((x y : X) → values x ≡ values y → x ≡ y)
-    → (r : Result (List Y) ℕ) (n m : Result X LineFault) → r ≡ listed values n → r ≡ listed values m → n ≡ m
-listed_once values told r (Ok x) (Ok y) p q = ap (λ v. Ok v) (told x y (cc))
-listed_once values told r (Ok x) (Err e) p q = cc
-listed_once values told r (Err d) (Ok y) p q = cc
-listed_once values told r (Err (Unreadable j)) (Err (Unreadable k)) p q = cc
-
-figures_at : ℤ → ℤ → ℤ → ℤ → Figures
-figures_at l r t s = record { left = l; right = r; t = t; s = s }
-
--- four numbers are told by their list
-figures_told : (f g : Figures) → figures_of f ≡ figures_of g → f ≡ g
-unfolding figures_at
-figures_told f g p =
-    let same : figures_at f.left f.right f.t f.s ≡ figures_at g.left g.right g.t g.s = cc in
-    same
-
--- what four numbers are answered
-abbrev Makes : Figures → Result BoundT BoundFault → Type 0
-Makes f a = Made f.left f.right f.t f.s a
-
--- what three words are answered
-abbrev RowOfWords : List ℕ → Result BoundT WordFault → Type 0
-RowOfWords ws a = BoundRead (get_or ws 0 0) (get_or ws 1 0) (get_or ws 2 0) a
+-- fields are read in one way
+listed_once : {X : Type 0} (r : Result (List X) ℕ) (n m : Result (List X) LineFault) → r ≡ listed n → r ≡ listed m → n ≡ m
+listed_once r (Ok x) (Ok y) p q = cc
+listed_once r (Ok x) (Err e) p q = cc
+listed_once r (Err d) (Ok y) p q = cc
+listed_once r (Err (Unreadable j)) (Err (Unreadable k)) p q = cc
 
 -- what one line holds
 module _ (line : List ℕ) where
   -- a line of numbers is answered by way of its fields
-  bound_through : (q : Result BoundT ListingFault) → BoundLine line q → Through (FourNumbers (fields line)) Makes of_bound q
+  bound_through : (q : Result BoundT ListingFault) → BoundLine line q → Through (FourNumbers (fields line)) FourMake of_bound q
   bound_through (Ok b) (f, reads, made) = inr (f, Ok b, reads, made, refl)
   bound_through (Err (Line e)) reads = inl (e, reads, refl)
   bound_through (Err (Bound e)) (f, reads, out) = inr (f, Err e, reads, out, refl)
   bound_through (Err (Word e)) never = absurd never
 
   -- and so is a line of words
-  words_through : (q : Result BoundT ListingFault) → WordsLine line q → Through (ThreeWords (fields line)) RowOfWords of_word q
+  words_through : (q : Result BoundT ListingFault) → WordsLine line q → Through (ThreeWords (fields line)) BoundRead of_word q
   words_through (Ok b) reads = inr (row_words (row_of b), Ok b, reads, refl, refl)
   words_through (Err (Line e)) reads = inl (e, reads, refl)
   words_through (Err (Bound e)) never = absurd never
-  words_through (Err (Word e)) (h, t, s, reads, broken) = inr (h ∷ (t ∷ (s ∷ [])), Err e, reads, broken, refl)
+  words_through (Err (Word e)) (ws, reads, broken) = inr (ws, Err e, reads, broken, refl)
 
   -- a line of numbers has one answer
   bound_line_once : (q r : Result BoundT ListingFault) → BoundLine line q → BoundLine line r → SameBound q r
   bound_line_once q r h g =
-      through_once (FourNumbers (fields line)) Makes of_bound (listed_once figures_of figures_told (readings number 1 4 (fields line)))
-      (λ f. made_once f.left f.right f.t f.s) q r (bound_through q h) (bound_through r g)
+      through_once (FourNumbers (fields line)) FourMake of_bound (listed_once (readings number 1 4 (fields line)))
+      (λ ns. made_once (at ns 0) (at ns 1) (at ns 2) (at ns 3)) q r (bound_through q h) (bound_through r g)
 
   -- a line of words has one answer
   words_line_once : (q r : Result BoundT ListingFault) → WordsLine line q → WordsLine line r → SameBound q r
   words_line_once q r h g =
-      through_once (ThreeWords (fields line)) RowOfWords of_word (listed_once (λ ws. ws) (λ x y e. e) (readings word 1 3 (fields line)))
-      (λ ws. bound_read_once (get_or ws 0 0) (get_or ws 1 0) (get_or ws 2 0)) q r (words_through q h) (words_through r g)
+      through_once (ThreeWords (fields line)) BoundRead of_word (listed_once (readings word 1 3 (fields line)))
+      bound_read_once q r (words_through q h) (words_through r g)
 
   -- a line holds one bound for a task, or is refused for one fault
   line_once : (task : Task) (q r : Result BoundT ListingFault) → LineOf task line q → LineOf task line r → SameBound q r

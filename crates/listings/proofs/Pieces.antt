@@ -7,7 +7,7 @@ use Rattle.lines.specs.Decimal.{number}
 use Rattle.lines.specs.Hex.{word}
 use Rattle.lines.specs.Kept.{kept}
 use Rattle.lines.proofs.Front.{decided}
-use Rattle.lines.proofs.Values.{number_long, word_long}
+use Rattle.lines.specs.Lengths.{number_long, word_long}
 use Rattle.listings.specs.declared.entry.Entry.{Entry}
 use Rattle.listings.specs.declared.entry.Entry.TheVariants as entries
 use Rattle.listings.specs.declared.fault.ListingFault.{ListingFault}
@@ -34,7 +34,7 @@ module _ (whole : List ℕ) where
   words_front (Ok b) reads = decided word 8 word_long 3 1 48 (take 48 whole) whole _ (lit≤ tt) refl reads
   words_front (Err (Line e)) reads = decided word 8 word_long 3 1 48 (take 48 whole) whole _ (lit≤ tt) refl reads
   words_front (Err (Bound e)) never = never
-  words_front (Err (Word e)) (h, t, s, reads, broken) = (h, t, s, decided word 8 word_long 3 1 48 (take 48 whole) whole _ (lit≤ tt) refl reads, broken)
+  words_front (Err (Word e)) (ws, reads, broken) = (ws, decided word 8 word_long 3 1 48 (take 48 whole) whole _ (lit≤ tt) refl reads, broken)
 
   line_front : (task : Task) (r : Result BoundT ListingFault) → LineOf task (take 48 whole) r → LineOf task whole r
   line_front Write r h = bound_front r h

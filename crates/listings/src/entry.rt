@@ -20,7 +20,7 @@ pub enum Entry {
 pub fn bound_line(line: &[u8]) -> Result<Bound, ListingFault>
     ensures { BoundLine line.now result }
 {
-    let [left, right, t, s] = values(line)?;
+    let [left, right, t, s]: [i64; 4] = values(line)?;
     Ok(Bound::new(left, right, t, s)?)
 }
 
