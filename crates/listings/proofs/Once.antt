@@ -1,9 +1,9 @@
 -- An input has one printing: each line tells one text and one count, and the line feeds cut the input in one way. Assumes nothing.
-use Rattle.std.proofs.Common.{◌≡◌, ℕ, ◌⊎◌, List, [], ◌∷◌, ◌++◌, get_or, ℤ, Ok, Err, Result, sym, refl, ap, ◌∙◌, subst, inl, inr, append_assoc, arith}
-use Rattle.std.specs.List.{AllByRecursion}
+use Rattle.std.proofs.Common.{◌≡◌, ℕ, ◌⊎◌, List, [], ◌∷◌, ◌++◌, Ok, Err, Result, sym, refl, ap, ◌∙◌, subst, inl, inr, append_assoc, arith}
+use Rattle.std.proofs.lemmas.List.Elements.{All-head, All-tail}
+use Rattle.std.specs.List.{All}
 use Rattle.bounds.specs.declared.bound.Bound.{Bound as BoundT}
-use Rattle.bounds.specs.declared.fault.BoundFault.{BoundFault}
-use Rattle.bounds.specs.Making.{Made, row_of}
+use Rattle.bounds.specs.Making.{row_of}
 use Rattle.bounds.proofs.Makes.{SameBound, made_once}
 use Rattle.lines.specs.declared.fault.LineFault.{LineFault}
 use Rattle.lines.specs.declared.fault.LineFault.TheVariants.{Unreadable}
@@ -12,7 +12,6 @@ use Rattle.lines.specs.Hex.{word}
 use Rattle.lines.specs.Reading.{readings, listed}
 use Rattle.lines.specs.Fields.{fields}
 use Rattle.lines.specs.Listing.{FourNumbers, ThreeWords}
-use Rattle.words.specs.declared.fault.WordFault.{WordFault}
 use Rattle.words.specs.Words.{row_words}
 use Rattle.words.specs.Reading.{BoundRead}
 use Rattle.words.proofs.Readings.{bound_read_once}
@@ -27,7 +26,7 @@ use Rattle.listings.specs.Faults.{of_bound, of_word}
 use Rattle.listings.specs.Counts.{counted, none_yet}
 use Rattle.listings.specs.Lines.{at, FourMake, BoundLine, WordsLine, LineOf, EntryOf}
 use Rattle.listings.specs.Printing.{text_of_bound, text_of_refusal, text_of_entry}
-use Rattle.listings.specs.Sessions.{OneLine, ended, Tells, Answered, Session, Closes, OnePrinting}
+use Rattle.listings.specs.Sessions.{Plain, OneLine, ended, Tells, Answered, Session, Closes, OnePrinting}
 
 -- a fault of the layer below goes up, and a bound stays
 abbrev raised : {F : Type 0} → (F → ListingFault) → Result BoundT F → Result BoundT ListingFault
@@ -141,19 +140,19 @@ answered_once task (line ∷ lines) c d e x y (first, more, between, cut, tells,
 -- the first line feed ends the line
 first_cut : (a b u v : List ℕ) → OneLine a → OneLine b → a ++ (10 ∷ u) ≡ b ++ (10 ∷ v) → (a ≡ b) × (u ≡ v)
 first_cut [] [] u v p q e = (refl, cc)
-first_cut [] (y ∷ b) u v p (other, q) e = absurd (other (cc))
-first_cut (x ∷ a) [] u v (other, p) q e = absurd (other (cc))
-first_cut (x ∷ a) (y ∷ b) u v (i, p) (j, q) e =
+first_cut [] (y ∷ b) u v p q e = absurd (All-head Plain y b q (cc))
+first_cut (x ∷ a) [] u v p q e = absurd (All-head Plain x a p (cc))
+first_cut (x ∷ a) (y ∷ b) u v p q e =
     let rest : a ++ (10 ∷ u) ≡ b ++ (10 ∷ v) = cc in
-    let more = first_cut a b u v p q rest in
+    let more = first_cut a b u v (All-tail Plain x a p) (All-tail Plain y b q) rest in
     (cc, more.1)
 
 -- a part of a line has no line feed
 no_feed : (a u x : List ℕ) → OneLine x → a ++ (10 ∷ u) ≡ x → ⊥
 no_feed [] u [] p e = let z : ◌≡◌ {A = ℕ} 0 1 = cc in omega arith
-no_feed [] u (y ∷ x) (other, p) e = other (cc)
+no_feed [] u (y ∷ x) p e = All-head Plain y x p (cc)
 no_feed (b ∷ a) u [] p e = let z : ◌≡◌ {A = ℕ} 0 1 = cc in omega arith
-no_feed (b ∷ a) u (y ∷ x) (other, p) e = no_feed a u x p (cc)
+no_feed (b ∷ a) u (y ∷ x) p e = no_feed a u x (All-tail Plain y x p) (cc)
 
 -- lines are the first line, its line feed, and the others
 opens : (line : List ℕ) (lines : List (List ℕ)) (x : List ℕ) → ended (line ∷ lines) ++ x ≡ line ++ (10 ∷ (ended lines ++ x))
@@ -161,13 +160,15 @@ opens line lines x = append_assoc (line ++ (10 ∷ [])) (ended lines) x ∙ appe
 
 -- The line feeds cut bytes into lines and a part of one in one way: the first line ends at the first line feed, and so
 -- do the others in what comes after it.
-ended_once : (ls ms : List (List ℕ)) (x y : List ℕ) → AllByRecursion OneLine ls → AllByRecursion OneLine ms → OneLine x → OneLine y → ended ls ++ x ≡ ended ms ++ y → (ls ≡ ms) × (x ≡ y)
+ended_once : (ls ms : List (List ℕ)) (x y : List ℕ) → All OneLine ls → All OneLine ms → OneLine x → OneLine y
+    → ended ls ++ x ≡ ended ms ++ y → (ls ≡ ms) × (x ≡ y)
 ended_once [] [] x y p q i j e = (refl, e)
 ended_once [] (m ∷ ms) x y p q i j e = absurd (no_feed m (ended ms ++ y) x i (sym (e ∙ opens m ms y)))
 ended_once (l ∷ ls) [] x y p q i j e = absurd (no_feed l (ended ls ++ x) y j (sym (opens l ls x) ∙ e))
-ended_once (l ∷ ls) (m ∷ ms) x y (o, p) (o', q) i j e =
-    let first = first_cut l m (ended ls ++ x) (ended ms ++ y) o o' (sym (opens l ls x) ∙ (e ∙ opens m ms y)) in
-    let others = ended_once ls ms x y p q i j first.1 in
+ended_once (l ∷ ls) (m ∷ ms) x y p q i j e =
+    let cut = sym (opens l ls x) ∙ (e ∙ opens m ms y) in
+    let first = first_cut l m (ended ls ++ x) (ended ms ++ y) (All-head OneLine l ls p) (All-head OneLine m ms q) cut in
+    let others = ended_once ls ms x y (All-tail OneLine l ls p) (All-tail OneLine m ms q) i j first.1 in
     (cc, others.1)
 
 -- an input from the start of a line has one text before its end, and one part is left
