@@ -1,11 +1,16 @@
--- What the laws of a kind give of a row of its values. Assumes nothing.
-use Rattle.std.proofs.Common.{◌≡◌, ℕ, ◌+◌, ◌*◌, ◌<◌, ◌≤◌, List, [], ◌∷◌, ◌++◌, map, length, get_or, take, sym, ap, ◌∙◌, subst, inl, inr, mul-le-mul_right, suc-mul, arith, length-take}
+-- What the laws of a kind give of the sums of a row. Assumes nothing.
+use Rattle.std.proofs.Common.{◌≡◌, ℕ, ◌+◌, ◌*◌, ◌<◌, ◌≤◌, List, [], ◌∷◌, ◌++◌, map, length, get_or, take, sym, ap, ◌∙◌, subst, inl, inr, mul-le-mul_right, suc-mul, arith, length-take, take_all}
 use Rattle.std.specs.List.{All}
 use Rattle.std.proofs.lemmas.List.Elements.{All-head, All-tail, All-take}
 use Rattle.std.proofs.lemmas.List.{take_more, map_push}
 use Rattle.std.proofs.lemmas.Bool.{cases_lt}
 use Rattle.delays.specs.Kind.{Kind, Exact, Lawful, Within}
-use Rattle.delays.specs.Totals.{total}
+use Rattle.delays.specs.Totals.{total, total_upto}
+
+-- d is the sum of what the first i of the row mean, and each sum on the way to it is within the reach
+pub record SummedUpto {Y : Type 0} (k : Kind) (each : Y → Exact k) (row : List Y) (i : ℕ) (d : Exact k) : Type 0 where
+  pub sum : d ≡ total_upto k each row i
+  pub within : (n : ℕ) → n ≤ i → Within k (total_upto k each row n)
 
 module _ {k : Kind} (laws : Lawful k) where
   -- one delay more
@@ -13,45 +18,52 @@ module _ {k : Kind} (laws : Lawful k) where
   total_push [] y = laws.comm y k.zero
   total_push (x ∷ xs) y = ap (k.sum x) (total_push xs y) ∙ sym (laws.assoc x (total k xs) y)
 
-  module _ {X : Type 0} (means : X → Exact k) (xs : List X) where
-    -- the sum of the first n values
-    abbrev pub first_total : ℕ → Exact k
-    first_total n = total k (map means (take n xs))
+  module _ {Y : Type 0} {each : Y → Exact k} {row : List Y} where
+    pub sum_begins : {d : Exact k} → d ≡ k.zero → SummedUpto k each row 0 d
+    sum_begins e = record {
+      sum = e;
+      within = λ n h. let none : 0 ≡ n = omega arith in subst (λ m. Within k (total_upto k each row m)) none (omega (arith, laws.size_zero));
+    }
 
-    -- where s is the sum of the first i values, s and the next value x are that of the first i + 1
-    pub total_next : {i : ℕ} {x : X} {s : Exact k} → i < length xs → x ≡ get_or xs i x → s ≡ first_total i → k.sum s (means x) ≡ first_total (i + 1)
-    total_next {i} {x} within read so_far =
-        let pushed : take (i + 1) xs ≡ take i xs ++ (x ∷ []) = take_more xs i x within ∙ ap (λ y. take i xs ++ (y ∷ [])) (sym read) in
-        let all : first_total (i + 1) ≡ k.sum (first_total i) (means x) =
-        ap (λ ys. total k (map means ys)) pushed ∙ (ap (total k) (map_push means (take i xs) x) ∙ total_push (map means (take i xs)) (means x)) in
-        ap (λ y. k.sum y (means x)) so_far ∙ sym all
+    -- the sum so far and what the next one means are the sum of one more
+    pub sum_next : {i : ℕ} {x : Y} {d : Exact k} → i < length row → x ≡ get_or row i x → SummedUpto k each row i d
+        → k.sum d (each x) ≡ total_upto k each row (i + 1)
+    sum_next {i} {x} more read so_far =
+        let pushed : take (i + 1) row ≡ take i row ++ (x ∷ []) = take_more row i x more ∙ ap (λ y. take i row ++ (y ∷ [])) (sym read) in
+        let all : total_upto k each row (i + 1) ≡ k.sum (total_upto k each row i) (each x) =
+        ap (λ ys. total k (map each ys)) pushed ∙ (ap (total k) (map_push each (take i row) x) ∙ total_push (map each (take i row)) (each x)) in
+        ap (λ y. k.sum y (each x)) so_far.sum ∙ sym all
 
-    -- the sum of no values is within the reach
-    pub within_none : (n : ℕ) → n ≤ 0 → Within k (first_total n)
-    within_none n h = let none : 0 ≡ n = omega arith in subst (λ m. Within k (first_total m)) none (omega (arith, laws.size_zero))
+    pub sum_goes_on : {i : ℕ} {x : Y} {d next : Exact k} → i < length row → x ≡ get_or row i x → SummedUpto k each row i d
+        → next ≡ k.sum d (each x) → Within k next → SummedUpto k each row (i + 1) next
+    sum_goes_on {i} {x} {d} {next} more read so_far e within =
+        let is_next : next ≡ total_upto k each row (i + 1) = e ∙ sum_next more read so_far in
+        record {
+          sum = is_next;
+          within = λ n h. elim (cases_lt i n) [
+            | inl above ↦ let same : i + 1 ≡ n = omega arith in subst (λ m. Within k (total_upto k each row m)) same (subst (Within k) is_next within)
+            | inr below ↦ so_far.within n below
+          ];
+        }
 
-    -- what is within the reach up to i, and at i + 1, is so up to i + 1
-    pub within_next : (i : ℕ) → ((n : ℕ) → n ≤ i → Within k (first_total n)) → Within k (first_total (i + 1)) → (n : ℕ) → n ≤ i + 1 → Within k (first_total n)
-    within_next i before next n h =
-        elim (cases_lt i n) [
-          | inl more ↦ let same : i + 1 ≡ n = omega arith in subst (λ m. Within k (first_total m)) same next
-          | inr less ↦ before n less
-        ]
+    pub sum_ends : {i : ℕ} {d : Exact k} → length row ≤ i → i ≤ length row → SummedUpto k each row i d
+        → (d ≡ total k (map each row)) × ((n : ℕ) → n ≤ length row → Within k (total_upto k each row n))
+    sum_ends {i} all few so_far = (so_far.sum ∙ ap (λ ys. total k (map each ys)) (take_all i row all), λ n h. so_far.within n (omega arith))
 
-  module _ {X : Type 0} (means : X → Exact k) where
-    -- the value is of a size of at most the greatest
-    abbrev IsSmall : X → Type 0
-    IsSmall x = k.size (means x) ≤ k.greatest
+  module _ {Y : Type 0} (each : Y → Exact k) where
+    -- it means a delay of a size of at most the greatest
+    abbrev IsSmall : Y → Type 0
+    IsSmall x = k.size (each x) ≤ k.greatest
 
-    total_size : (xs : List X) → All IsSmall xs → k.size (total k (map means xs)) ≤ length xs * k.greatest
+    total_size : (row : List Y) → All IsSmall row → k.size (total k (map each row)) ≤ length row * k.greatest
     total_size [] h = omega (arith, laws.size_zero)
-    total_size (x ∷ xs) h =
-        let here : k.size (means x) ≤ k.greatest = All-head IsSmall x xs h in
-        omega (arith, laws.size_sum (means x) (total k (map means xs)), total_size xs (All-tail IsSmall x xs h), suc-mul (length xs) k.greatest)
+    total_size (x ∷ row) h =
+        let here : k.size (each x) ≤ k.greatest = All-head IsSmall x row h in
+        omega (arith, laws.size_sum (each x) (total k (map each row)), total_size row (All-tail IsSmall x row h), suc-mul (length row) k.greatest)
 
-    -- The size of a sum grows by at most the greatest with each value, and the reach has room for 256 of these.
-    pub small_within : (xs : List X) → 256 * k.greatest ≤ k.reach → length xs ≤ 256 → All IsSmall xs → (n : ℕ) → Within k (total k (map means (take n xs)))
-    small_within xs room few small n =
-        let part = total_size (take n xs) (All-take IsSmall n xs small) in
-        let long : length (take n xs) ≤ 256 = simp length-take (omega arith) in
+    -- The size of a sum grows by at most the greatest with each one, and the reach has room for 256 of these.
+    pub small_within : (row : List Y) → 256 * k.greatest ≤ k.reach → length row ≤ 256 → All IsSmall row → (n : ℕ) → Within k (total_upto k each row n)
+    small_within row room few small n =
+        let part = total_size (take n row) (All-take IsSmall n row small) in
+        let long : length (take n row) ≤ 256 = simp length-take (omega arith) in
         omega (arith, part, mul-le-mul_right k.greatest long, room)

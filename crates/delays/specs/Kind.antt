@@ -1,6 +1,7 @@
 -- A kind of delay: which rows of whole numbers it has, what it computes with them, and the laws that it keeps. Assumes nothing.
 use Rattle.std.specs.Prelude.{◌≡◌, ℕ, ◌+◌, ◌≤◌, Bool, true, T, ◌⊎◌, List, ℤ, FitsSigned, unsigned_abs}
 use Rattle.std.specs.Int.{w64}
+use Rattle.delays.specs.Sizes.{small_part}
 
 -- a row of whole numbers, one of those that `has` tells
 pub record Row (has : List ℤ → Bool) : Type 0 where
@@ -60,4 +61,4 @@ pub record Lawful (k : Kind) : Type 0 where
   -- parts are signed numbers of 64 bits, they tell the delay, and small ones are those of a small delay
   pub parts_fit : (x : Exact k) → Within k x → FitsSigned w64 (k.t x) × FitsSigned w64 (k.s x)
   pub parts_tell : (x : Exact k) → Within k x → k.value (k.t x) (k.s x) ≡ x
-  pub small_parts : (x : Exact k) → Within k x → unsigned_abs (k.t x) ≤ 500_000_000 → unsigned_abs (k.s x) ≤ 500_000_000 → k.size x ≤ k.greatest
+  pub small_parts : (x : Exact k) → Within k x → unsigned_abs (k.t x) ≤ small_part → unsigned_abs (k.s x) ≤ small_part → k.size x ≤ k.greatest

@@ -1,3 +1,4 @@
+pub mod Sizes
 pub mod Kind
 pub mod Theory
 pub mod Ticks

@@ -1,6 +1,7 @@
 -- Ranked: milliseconds, and a step inside one millisecond. Assumes nothing.
 use Rattle.std.specs.Prelude.{max, Bool, true, false, ◌&&◌, ◌||◌, List, [], ◌∷◌, ℤ, pos, ◌+ℤ◌, neg_ℤ, int_le, int_lt, slice_index_or, unsigned_abs}
 use Rattle.delays.specs.Kind.{Kind, Row}
+use Rattle.delays.specs.Sizes.{small_part, number_reach}
 
 -- the rows are those of two numbers
 abbrev pub two_numbers : List ℤ → Bool
@@ -36,6 +37,6 @@ ranked_kind = record {
   t = first;
   s = second;
   value = rank;
-  greatest = 500_000_000;
-  reach = 1_099_511_627_776;
+  greatest = small_part;
+  reach = number_reach;
 }

@@ -1,6 +1,8 @@
 -- Ranked delays keep the laws of a kind: a row is its two numbers, and the order goes by the first of them that differ. Assumes nothing.
-use Rattle.std.specs.Prelude.{◌≡◌, ℕ, ◌*◌, ◌≤◌, max, true, T, ◌⊎◌, List, [], ◌∷◌, ℤ, pos, ◌+ℤ◌, slice_index_or, refl}
-use Rattle.std.proofs.Common.{sym, ◌∙◌, inl, inr, arith}
+use Rattle.std.specs.Prelude.{◌≡◌, ℕ, ◌*◌, ◌≤◌, max, true, T, ◌⊎◌, List, [], ◌∷◌, ℤ, pos, ◌+ℤ◌, slice_index_or, refl, ◌&&◌, Some, Decides}
+use Rattle.std.specs.Ordering.{int_cmp, int_eq, is_le, is_some_and, partial_ordering_then}
+use Rattle.std.specs.Cmp.{signed_Decides, first_so, second_so}
+use Rattle.std.proofs.Common.{sym, ap, ◌∙◌, inl, inr, arith}
 use Rattle.std.proofs.Math.IntN.{+ℤ_assoc, +ℤ_comm, +ℤ_idr, +ℤ_invr}
 use Rattle.std.proofs.lemmas.Int.{ints, by_lt_z}
 use Rattle.delays.specs.Kind.{Row, Lawful}
@@ -69,3 +71,13 @@ max_within h i = omega arith
 -- the reach has room for 256 delays of the greatest size
 pub ranked_room : 256 * ranked_kind.greatest ≤ ranked_kind.reach
 ranked_room = omega arith
+
+-- the order by the first number, and then by the second, is that of the rows, and equal numbers have one row
+pub ranked_ordered : (t s u v : ℤ) → is_some_and is_le (partial_ordering_then (Some (int_cmp t u)) (Some (int_cmp s v))) ≡ ranked_kind.leq (rank t s) (rank u v)
+ranked_ordered t s u v = grind (arith, ints)
+
+pub ranked_equal : (t s u v : ℤ) → Decides (int_eq t u && int_eq s v) (rank t s ≡ rank u v)
+ranked_equal t s u v = (
+  λ e. rank_same ((signed_Decides t u).0 (first_so (int_eq t u) (int_eq s v) e)) ((signed_Decides s v).0 (second_so (int_eq t u) (int_eq s v) e)),
+  λ e. let p = (signed_Decides t u).1 (ap first e) in let q = (signed_Decides s v).1 (ap second e) in ap (λ b. b && int_eq s v) p ∙ q,
+)

@@ -1,6 +1,7 @@
 -- Ticks: one whole number of milliseconds. Assumes nothing.
 use Rattle.std.specs.Prelude.{Bool, true, false, List, [], ◌∷◌, ℤ, pos, ◌+ℤ◌, neg_ℤ, int_le, slice_index_or, unsigned_abs}
 use Rattle.delays.specs.Kind.{Kind, Row}
+use Rattle.delays.specs.Sizes.{small_part, number_reach}
 
 -- the rows are those of one number
 abbrev pub one_number : List ℤ → Bool
@@ -28,6 +29,6 @@ ticks_kind = record {
   t = λ x. ticks x;
   s = λ x. pos 0;
   value = λ t s. tick t;
-  greatest = 500_000_000;
-  reach = 1_099_511_627_776;
+  greatest = small_part;
+  reach = number_reach;
 }

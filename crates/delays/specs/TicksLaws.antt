@@ -1,5 +1,7 @@
 -- Ticks keep the laws of a kind: a row is its number, and the laws are those of whole numbers. Assumes nothing.
-use Rattle.std.specs.Prelude.{◌≡◌, ◌*◌, ◌≤◌, true, T, ◌⊎◌, List, [], ◌∷◌, ℤ, pos, int_le, slice_index_or, refl}
+use Rattle.std.specs.Prelude.{◌≡◌, ◌*◌, ◌≤◌, true, T, ◌⊎◌, List, [], ◌∷◌, ℤ, pos, int_le, slice_index_or, refl, Decides}
+use Rattle.std.specs.Ordering.{int_cmp, int_eq, is_le}
+use Rattle.std.specs.Cmp.{signed_Decides}
 use Rattle.std.proofs.Common.{sym, ap, ◌∙◌, inl, inr, arith}
 use Rattle.std.proofs.Math.IntN.{+ℤ_assoc, +ℤ_comm, +ℤ_idr, +ℤ_invr}
 use Rattle.std.proofs.lemmas.Int.{ints, by_lt_z}
@@ -45,3 +47,10 @@ ticks_lawful = record {
 -- the reach has room for 256 delays of the greatest size
 pub ticks_room : 256 * ticks_kind.greatest ≤ ticks_kind.reach
 ticks_room = omega arith
+
+-- the order of numbers is that of their rows, and equal numbers have one row
+pub ticks_ordered : (t u : ℤ) → is_le (int_cmp t u) ≡ ticks_kind.leq (tick t) (tick u)
+ticks_ordered t u = grind (arith, ints)
+
+pub ticks_equal : (t u : ℤ) → Decides (int_eq t u) (tick t ≡ tick u)
+ticks_equal t u = (λ e. ap tick ((signed_Decides t u).0 e), λ e. (signed_Decides t u).1 (ap ticks e))

@@ -1,25 +1,25 @@
-ghost use Rattle.std.specs.Prelude.{◌≡◌, ◌*◌, ◌<◌, ◌≤◌, MatchOption};
+ghost use Rattle.std.specs.Prelude.{◌≡◌, ℕ, ◌*◌, ◌<◌, ◌≤◌, MatchOption, Decides};
+ghost use Rattle.std.specs.Ordering.{partial_le};
 ghost use Rattle.delays.specs.Kind.{Kind, Exact, Within, Lawful, Parts, Unread};
 
 // A kind of delay. A value means one exact delay of the kind, of a size within its reach. What is computed with values is
 // exact, and answers nothing where it would leave the reach.
-pub trait Delay: Copy {
+pub trait Delay: Copy + Ord {
     // The greatest size of a delay whose parts are from -500,000,000 to 500,000,000.
     const GREATEST: u64;
 
     // The greatest size of a delay that a value can mean.
     const REACH: u64;
 
+    ghost GREATEST: { ℕ };
+
+    ghost REACH: { ℕ };
+
     // Which rows of whole numbers the kind has, and their sum, order, size and parts.
     ghost kind: { Kind };
 
     // The exact delay that a value means.
     ghost means: { Self → Exact kind };
-
-    // `GREATEST` and `REACH`: this ties them to the kind's two numbers.
-    fn limits() -> (u64, u64)
-        ensures greatest { result.0 ≡ kind.greatest }
-        ensures reach { result.1 ≡ kind.reach };
 
     fn zero() -> Self
         ensures { means result ≡ kind.zero };
@@ -31,10 +31,6 @@ pub trait Delay: Copy {
     fn add(self, other: Self) -> Option<Self>
         ensures { MatchOption result (kind.reach < kind.size (kind.sum (means self) (means other))) (λ v. means v ≡ kind.sum (means self) (means other)) };
 
-    // Whether `self` is at most `other`.
-    fn at_most(self, other: Self) -> bool
-        ensures { result ≡ kind.leq (means self) (means other) };
-
     // The parts t and s.
     fn parts(self) -> (i64, i64)
         ensures { Parts kind (means self) result.0 result.1 };
@@ -42,6 +38,15 @@ pub trait Delay: Copy {
     // The delay with the parts t and s, or nothing exactly when no delay has them.
     fn read(t: i64, s: i64) -> Option<Self>
         ensures { MatchOption result (Unread kind t s) (λ v. Parts kind (means v) t s) };
+
+    ghost greatest: { GREATEST ≡ kind.greatest };
+
+    ghost reach: { REACH ≡ kind.reach };
+
+    // `<=` is the order of the delays that values mean, and `==` tells whether they are one.
+    ghost ordered: { (x y : Self) → partial_le Self.partial_cmp x y ≡ kind.leq (means x) (means y) };
+
+    ghost equal: { (x y : Self) → Decides (Self.eq x y) (means x ≡ means y) };
 
     ghost lawful: { Lawful kind };
 

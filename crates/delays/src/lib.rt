@@ -3,12 +3,15 @@
 
 pub mod delay;
 pub mod fault;
+pub mod has_delay;
+mod number;
 pub mod ranked;
 pub mod ticks;
 pub mod totals;
 
 pub use delay::Delay;
 pub use fault::KindFault;
+pub use has_delay::HasDelay;
 pub use ranked::Ranked;
 pub use ticks::Ticks;
 pub use totals::{read_pair, total};

@@ -1,51 +1,47 @@
 // Delays in milliseconds.
-ghost use Rattle.std.specs.Prelude.{◌≡◌, ◌<◌, ◌≤◌, MatchOption, unsigned_abs};
+ghost use Rattle.std.specs.Prelude.{refl};
+ghost use Rattle.delays.specs.Sizes.{small_part, number_reach};
 ghost use Rattle.delays.specs.Ticks.{tick, ticks_kind};
-ghost use Rattle.delays.specs.TicksLaws.{ticks_lawful, ticks_room};
+ghost use Rattle.delays.specs.TicksLaws.{ticks_lawful, ticks_room, ticks_ordered, ticks_equal};
 
 use crate::delay::Delay;
-
-const REACH: u64 = 1_099_511_627_776;
+use crate::number::{Number, REACH, SMALL_PART};
 
 // A whole number of milliseconds.
-#[derive(Clone, Copy, PartialEq, Eq, Debug)]
+#[derive(Clone, Copy, PartialEq, Eq, PartialOrd, Ord, Debug)]
 pub struct Ticks {
-    t: i64,
-    ghost within: { unsigned_abs t ≤ 1_099_511_627_776 },
-}
-
-// The value of a number, or nothing where it is past the reach.
-fn made(t: i64) -> Option<Ticks>
-    ensures { MatchOption result (1_099_511_627_776 < unsigned_abs t) (λ v. v.t ≡ t) }
-{
-    if t.unsigned_abs() <= REACH {
-        Some(Ticks { t })
-    } else {
-        None
-    }
+    t: Number,
 }
 
 impl Delay for Ticks {
-    const GREATEST: u64 = 500_000_000;
+    const GREATEST: u64 = SMALL_PART;
 
     const REACH: u64 = REACH;
 
+    ghost GREATEST = { small_part };
+
+    ghost REACH = { number_reach };
+
     ghost kind = { ticks_kind };
 
-    ghost means = { λ x. tick x.t };
+    ghost means = { λ x. tick x.t.value };
+
+    ghost greatest = { refl };
+
+    ghost reach = { refl };
+
+    ghost ordered = { λ x y. ticks_ordered x.t.value y.t.value };
+
+    ghost equal = { λ x y. ticks_equal x.t.value y.t.value };
 
     ghost lawful = { ticks_lawful };
 
     ghost room = { ticks_room };
 
-    ghost within = { λ x. x.within };
-
-    fn limits() -> (u64, u64) {
-        (Self::GREATEST, Self::REACH)
-    }
+    ghost within = { λ x. x.t.within };
 
     fn zero() -> Ticks {
-        Ticks { t: 0 }
+        Ticks { t: Number::from(0) }
     }
 
     fn opposite(self) -> Ticks {
@@ -53,18 +49,20 @@ impl Delay for Ticks {
     }
 
     fn add(self, other: Ticks) -> Option<Ticks> {
-        made(self.t + other.t)
-    }
-
-    fn at_most(self, other: Ticks) -> bool {
-        self.t <= other.t
+        Some(Ticks {
+            t: self.t.checked_add(other.t)?,
+        })
     }
 
     fn parts(self) -> (i64, i64) {
-        (self.t, 0)
+        (self.t.value(), 0)
     }
 
     fn read(t: i64, s: i64) -> Option<Ticks> {
-        if s == 0 { made(t) } else { None }
+        if s == 0 {
+            Some(Ticks { t: Number::new(t)? })
+        } else {
+            None
+        }
     }
 }

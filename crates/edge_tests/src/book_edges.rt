@@ -5,11 +5,16 @@ use bounds::{Bound, BoundFault};
 use faults::{Fault, Layer};
 use std::process::Abort;
 use std::test::Fail;
-use words::words_of;
+use words::BoundWords;
 
 // Bounds that differ, by a number.
 fn bound(n: i64) -> Result<Bound, BoundFault> {
     Bound::new(1, 2, n, 0)
+}
+
+// The three words of a bound.
+fn words_of(bound: Bound) -> [u32; 3] {
+    BoundWords::from(bound).0
 }
 
 // The numbers of fixed bounds, added bounds and free places of any book.
@@ -225,5 +230,5 @@ fn the_fault_of_a_full_book(rt: HostRuntime) {
         layer: Layer::Books,
         place: 0,
     };
-    assert_eq!(rt; BookFault::Full.fault(), told);
+    assert_eq!(rt; Fault::from(BookFault::Full), told);
 }

@@ -59,9 +59,9 @@ fn rows_of_tables(rt: HostRuntime) -> Result<(), Fail> {
         t: -1,
         s: 2,
     };
-    assert_eq!(rt; Bound::from_row(row)?.row(), row);
+    assert_eq!(rt; Bound::try_from(row)?.row(), row);
     let far = Row { right: 4096, ..row };
-    assert!(rt; Bound::from_row(far).is_err());
+    assert!(rt; Bound::try_from(far).is_err());
     Ok(())
 }
 
@@ -79,6 +79,6 @@ fn faults_of_bounds(rt: HostRuntime) {
             layer: Layer::Bounds,
             place,
         };
-        assert_eq!(rt; fault.fault(), told);
+        assert_eq!(rt; Fault::from(fault), told);
     }
 }

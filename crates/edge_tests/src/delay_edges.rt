@@ -72,14 +72,14 @@ fn sums_at_the_reach(rt: HostRuntime) -> Result<(), Fail> {
 
 #[test]
 fn orders(rt: HostRuntime) -> Result<(), Fail> {
-    assert!(rt; ticks(-1)?.at_most(ticks(0)?));
-    assert!(rt; ticks(0)?.at_most(ticks(0)?));
-    assert!(rt; !ticks(1)?.at_most(ticks(0)?));
-    assert!(rt; ranked(0, REACH)?.at_most(ranked(1, -REACH)?));
-    assert!(rt; !ranked(1, -REACH)?.at_most(ranked(0, REACH)?));
-    assert!(rt; ranked(1, 2)?.at_most(ranked(1, 2)?));
-    assert!(rt; ranked(1, 1)?.at_most(ranked(1, 2)?));
-    assert!(rt; !ranked(1, 2)?.at_most(ranked(1, 1)?));
+    assert!(rt; ticks(-1)? <= ticks(0)?);
+    assert!(rt; ticks(0)? <= ticks(0)?);
+    assert!(rt; !(ticks(1)? <= ticks(0)?));
+    assert!(rt; ranked(0, REACH)? <= ranked(1, -REACH)?);
+    assert!(rt; !(ranked(1, -REACH)? <= ranked(0, REACH)?));
+    assert!(rt; ranked(1, 2)? <= ranked(1, 2)?);
+    assert!(rt; ranked(1, 1)? <= ranked(1, 2)?);
+    assert!(rt; !(ranked(1, 2)? <= ranked(1, 1)?));
     Ok(())
 }
 
@@ -93,8 +93,8 @@ fn totals(rt: HostRuntime) -> Result<(), Fail> {
         total(&[ticks(REACH)?, ticks(-1)?, ticks(1)?]),
         Some(ticks(REACH)?)
     );
-    assert_eq!(rt; Ticks::limits(), (500_000_000, 1_099_511_627_776));
-    assert_eq!(rt; Ranked::limits(), (500_000_000, 1_099_511_627_776));
+    assert_eq!(rt; (Ticks::GREATEST, Ticks::REACH), (500_000_000, 1_099_511_627_776));
+    assert_eq!(rt; (Ranked::GREATEST, Ranked::REACH), (500_000_000, 1_099_511_627_776));
     Ok(())
 }
 
@@ -105,5 +105,5 @@ fn the_fault_of_kinds(rt: HostRuntime) {
         layer: Layer::Kinds,
         place: 0,
     };
-    assert_eq!(rt; KindFault::Unread.fault(), told);
+    assert_eq!(rt; Fault::from(KindFault::Unread), told);
 }

@@ -9,20 +9,16 @@ fn ticks(t: i64) -> Result<Ticks, KindFault> {
     read_pair(t, 0)
 }
 
-fn in_ticks(left: usize, right: usize, t: i64) -> Result<Edge<Ticks>, KindFault> {
-    Ok(Edge {
-        left,
-        right,
-        delay: ticks(t)?,
-    })
-}
-
-fn in_ranked(left: usize, right: usize, t: i64, s: i64) -> Result<Edge<Ranked>, KindFault> {
+fn edge<D: Delay>(left: usize, right: usize, t: i64, s: i64) -> Result<Edge<D>, KindFault> {
     Ok(Edge {
         left,
         right,
         delay: read_pair(t, s)?,
     })
+}
+
+fn in_ticks(left: usize, right: usize, t: i64) -> Result<Edge<Ticks>, KindFault> {
+    edge(left, right, t, 0)
 }
 
 // Point 1 is at most 5 after point 0, and at least 5, or at least 6.
@@ -115,11 +111,11 @@ fn times_at_the_reach(rt: HostRuntime) -> Result<(), Fail> {
 // Two steps are no millisecond, so they leave room before the next one.
 #[test]
 fn ranked_steps_are_no_milliseconds(rt: HostRuntime) -> Result<(), Fail> {
-    let steps = [in_ranked(0, 1, 0, -1)?, in_ranked(1, 2, 0, -1)?];
+    let steps: [Edge<Ranked>; 2] = [edge(0, 1, 0, -1)?, edge(1, 2, 0, -1)?];
     let edges = [
         steps[0],
         steps[1],
-        in_ranked(2, 0, 1, -500_000_000)?,
+        edge(2, 0, 1, -500_000_000)?,
         floor(0),
         floor(1),
         floor(2),

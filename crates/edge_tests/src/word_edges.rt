@@ -2,7 +2,7 @@
 use bounds::Bound;
 use faults::{Fault, Layer};
 use std::test::Fail;
-use words::{WordFault, bound_of, check as check_words, round_trip, words_of};
+use words::{BoundWords, WordFault, check as check_words, round_trip};
 
 const ROW: [u32; 3] = [0x4000_0001, 0xbfff_ffec, 0xc000_0000];
 
@@ -23,8 +23,8 @@ fn words_of_bounds(rt: HostRuntime) -> Result<(), Fail> {
     ];
     for ([left, right, t, s], words) in table {
         let bound = Bound::new(left, right, t, s)?;
-        assert_eq!(rt; words_of(bound), words);
-        assert_eq!(rt; bound_of(words[0], words[1], words[2])?, bound);
+        assert_eq!(rt; BoundWords::from(bound), BoundWords(words));
+        assert_eq!(rt; Bound::try_from(BoundWords(words))?, bound);
         assert_eq!(rt; round_trip(bound)?, bound);
     }
     Ok(())
@@ -46,8 +46,8 @@ fn each_word_broken(rt: HostRuntime) {
         ([0x4000_0001, 0xbfff_ffec, 0xe232_9aff], 2),
         ([0x4000_0001, 0xbfff_ffec, 0x8000_0000], 2),
     ];
-    for ([head, t, s], place) in table {
-        assert_eq!(rt; bound_of(head, t, s), Err(at(place)));
+    for (words, place) in table {
+        assert_eq!(rt; Bound::try_from(BoundWords(words)), Err(at(place)));
     }
 }
 
@@ -100,6 +100,6 @@ fn faults_of_words(rt: HostRuntime) {
         layer: Layer::Books,
         place: 4,
     };
-    assert_eq!(rt; WordFault::Length { words: 4 }.fault(), told);
-    assert_eq!(rt; at(4).fault(), told);
+    assert_eq!(rt; Fault::from(WordFault::Length { words: 4 }), told);
+    assert_eq!(rt; Fault::from(at(4)), told);
 }

@@ -1,5 +1,7 @@
+pub mod Arrays
 pub mod Cuts
 pub mod Values
 pub mod Front
 pub mod Keeping
+pub mod Takes
 pub mod Written

@@ -14,36 +14,22 @@ digit_next base n i ds o h e =
     at_drop_more (digits_after base n) ds i 0 h ∙ ap (λ x. and_then x (λ d. digits_after base (n * base + d) (drop (i + 1) ds))) (sym e)
 
 -- i digits and one more are below the base's next power
-pub digit_fits : (base n d i : ℕ) → n < base ^ i → d < base → n * base + d < base ^ (i + 1)
-digit_fits base n d i h k =
+pub digit_below : (base n d i : ℕ) → n < base ^ i → d < base → n * base + d < base ^ (i + 1)
+digit_below base n d i h k =
     let power : base ^ (i + 1) ≡ base ^ i * base = rw add-one (pow-suc base i) in
     let more : (n + 1) * base ≤ base ^ i * base = mul-le-mul_right base (omega arith) in
     omega (arith, add-mul n 1 base)
 
--- up to ten digits in a base up to sixteen are below 2 ^ 40
-pub few_digits : (base n i : ℕ) → base ≤ 16 → i ≤ 10 → n < base ^ i → n < 2 ^ 40
-few_digits base n i small few h =
-    let p : base ^ i ≤ 16 ^ i = pow-le-pow_left small i in
-    let q : 16 ^ i ≤ 16 ^ 10 = pow-le-pow_right (lit≤ tt) few in
+-- and where they are at most ten, in a base up to sixteen, they are below 2 ^ 40
+pub next_fits : (base n d i : ℕ) → base ≤ 16 → i < 10 → n < base ^ i → d < base → n * base + d < 2 ^ 40
+next_fits base n d i small few h k =
+    let more : i + 1 ≤ 10 = omega arith in
+    let p : base ^ (i + 1) ≤ 16 ^ (i + 1) = pow-le-pow_left small (i + 1) in
+    let q : 16 ^ (i + 1) ≤ 16 ^ 10 = pow-le-pow_right (lit≤ tt) more in
+    let r = digit_below base n d i h k in
     omega arith
 
 -- a field that begins with a minus has the number of its other bytes, with a minus
 pub number_minus : (f : List ℕ) → 0 < length f → get_or f 0 0 ≡ 45 → number f ≡ negative (natural (take (length f - 1) (drop 1 f)))
 number_minus [] h e = absurd (let k : ⊥ = omega arith in k)
 number_minus (c ∷ cs) h e = cond-true _ _ _ (eq-eqb c 45 e) ∙ ap (λ ds. negative (natural ds)) (sym (take_rest (c ∷ cs) 1))
-
--- more than ten digits are no number
-natural_long : (ds : List ℕ) → 10 < length ds → natural ds ≡ None
-natural_long ds h = cond-false _ _ _ (and_right _ _ (lt-leb (length ds) 10 h))
-
--- a field of more than eleven bytes is no number
-pub number_long : (f : List ℕ) → 11 < length f → number f ≡ None
-number_long [] h = refl
-number_long (c ∷ cs) h =
-    cond_both (eqb c 45) _ _ (λ o. o ≡ None)
-    (λ _. ap negative (natural_long cs (omega arith)))
-    (λ _. ap positive (natural_long (c ∷ cs) (omega arith)))
-
--- a field of more than eight bytes is no word
-pub word_long : (f : List ℕ) → 8 < length f → word f ≡ None
-word_long f h = cond-false _ _ _ (ne_eqb (length f) 8 (λ e. omega arith))

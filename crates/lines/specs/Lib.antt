@@ -2,6 +2,7 @@ pub mod Fields
 pub mod Digits
 pub mod Decimal
 pub mod Hex
+pub mod Lengths
 pub mod Faults
 pub mod Reading
 pub mod Listing

@@ -28,7 +28,11 @@ readings read p zero (f ∷ fs) = Err p
 readings read p (suc k) [] = Err p
 readings read p (suc k) (f ∷ fs) = with_first p (read f) (readings read (suc p) k fs)
 
--- an answer of the code as a reading: the values that it holds, or the place that it refuses
-abbrev pub listed : {X Y : Type 0} → (X → List Y) → Result X LineFault → Result (List Y) ℕ
-listed values (Ok x) = Ok (values x)
-listed values (Err e) = Err (place_of e)
+-- an answer of the code as a reading: the values in its array, or the place that it refuses
+abbrev pub listed : {X : Type 0} → Result (List X) LineFault → Result (List X) ℕ
+listed (Ok xs) = Ok xs
+listed (Err e) = Err (place_of e)
+
+-- the fields, from place 1 on, are just the n values of the answer, or the one that it refuses is the first at fault
+abbrev pub HoldsJust : {X : Type 0} → (List ℕ → Option X) → ℕ → List (List ℕ) → Result (List X) LineFault → Type 0
+HoldsJust read n fs r = readings read 1 n fs ≡ listed r

@@ -1,26 +1,38 @@
 // Why a line is refused.
-ghost use Rattle.std.specs.Prelude.{◌≡◌};
-ghost use Rattle.lines.specs.Faults.{fault_of};
+ghost use Rattle.std.specs.Prelude.{◌≡◌, Some};
+ghost use Rattle.lines.specs.Faults.{fault_of, reason_of};
 
 use faults::{Fault, Layer};
+use std::fmt;
 
 #[derive(Clone, Copy, PartialEq, Eq, Debug)]
 pub enum LineFault {
     // The field at this place is missing, bad or extra. The reader of a line says at which place its fields begin.
-    Unreadable { field: u8 },
+    Unreadable { field: u64 },
 }
 
-impl LineFault {
-    // The refusal as every layer tells it.
-    pub fn fault(self) -> Fault
-        ensures { result ≡ fault_of self }
-    {
-        match self {
+// The refusal as every layer tells it.
+impl From<LineFault> for Fault {
+    ghost from_gives = { λ e r. r ≡ fault_of e };
+
+    fn from(e: LineFault) -> Fault {
+        match e {
             LineFault::Unreadable { field } => Fault {
                 number: 12,
                 layer: Layer::Lines,
-                place: u64::from(field),
+                place: field,
             },
         }
     }
 }
+
+// What is wrong, in words.
+impl fmt::Display for LineFault {
+    ghost output = { λ e. Some (reason_of e) };
+
+    fn fmt<W: fmt::Write>(&self, f: &mut fmt::Formatter<W>) -> fmt::Result {
+        f.write_str("a field is missing, unreadable or extra")
+    }
+}
+
+impl std::error::Error for LineFault {}

@@ -1,35 +1,42 @@
 // A line as fields, which are the parts between single spaces.
-ghost use Rattle.std.specs.Prelude.{◌≡◌, ℕ, ◌<◌, ◌≤◌, length, ◌≢◌, slice_index};
-ghost use Rattle.lines.specs.Fields.{fields, left_of, First};
-ghost use Rattle.lines.specs.Decimal.{number};
-ghost use Rattle.lines.specs.Hex.{word};
-ghost use Rattle.lines.specs.Reading.{Taken, Ended};
+ghost use Rattle.std.specs.Prelude.{◌<◌, ◌^◌, length, IfSome};
+ghost use Rattle.std.proofs.Props.{props};
 
 use crate::fault::LineFault;
-use crate::number::{number_in, word_in};
+use crate::number::FromField;
 
 // The fields of a line that are left to read.
 #[derive(Drop)]
 pub struct Fields<'a> {
     // What is left of the line. After a last space an empty field is left, so nothing and an empty rest differ.
     rest: Option<&'a [u8]>,
+    // No slice is longer, so the place of a field fits in 64 bits.
+    ghost short: { IfSome rest (λ r. length r.now < 2 ^ 63) } by { Prim.hlevel props },
 }
 
-// The length of the first field.
-fn field_len(text: &[u8]) -> usize
-    ensures within { result ≤ length text.now }
-    ensures before { (k : ℕ) → k < result → slice_index text.now k ≢ 32 }
-    ensures found { result < length text.now → slice_index text.now result ≡ 32 }
-{
-    for (i, b) in text.iter().enumerate() {
-        if *b == b' ' {
-            return i;
-        }
+impl<'a> Iterator for Fields<'a> {
+    ghost use Rattle.std.specs.Iterator.{YieldsFirstRef, item_count};
+    ghost use Rattle.lines.specs.Fields.{left_of};
+
+    type Item = &'a [u8];
+
+    ghost next_gives = { YieldsFirstRef left_of };
+
+    ghost remaining = { item_count left_of };
+
+    fn next(&mut self) -> Option<&'a [u8]> {
+        let mut parts = self.rest?.splitn(2, |b| *b == b' ');
+        let field = parts.next();
+        self.rest = parts.next();
+        field
     }
-    text.len()
 }
 
 impl<'a> Fields<'a> {
+    ghost use Rattle.std.specs.Prelude.{◌≡◌};
+    ghost use Rattle.lines.specs.Fields.{fields, left_of};
+    ghost use Rattle.lines.specs.Reading.{Taken, Ended, HoldsJust};
+
     // All the fields of a line.
     pub fn new(line: &'a [u8]) -> Fields<'a>
         ensures { left_of result ≡ fields line.now }
@@ -37,54 +44,33 @@ impl<'a> Fields<'a> {
         Fields { rest: Some(line) }
     }
 
-    // The next field.
-    pub fn next(&mut self) -> Option<&'a [u8]>
-        ensures { First (left_of self.old) result (left_of self.new) }
+    // The value in the next field, which stands at `place`.
+    pub fn value<T: FromField>(&mut self, place: u64) -> Result<T, LineFault>
+        ensures { Taken T.reading place (left_of self.old) result (left_of self.new) }
     {
-        let Some(rest) = self.rest else {
-            return None;
-        };
-        let (field, tail) = rest.split_at(field_len(rest));
-        match tail {
-            [_, after @ ..] => self.rest = Some(after),
-            [] => self.rest = None,
-        }
-        Some(field)
-    }
-
-    // The number in the next field, which stands at `place`.
-    pub fn number(&mut self, place: u8) -> Result<i64, LineFault>
-        ensures { Taken number place (left_of self.old) result (left_of self.new) }
-    {
-        match self.next() {
-            Some(field) => match number_in(field) {
-                Some(n) => Ok(n),
-                None => Err(LineFault::Unreadable { field: place }),
-            },
-            None => Err(LineFault::Unreadable { field: place }),
-        }
-    }
-
-    // The word in the next field, which stands at `place`.
-    pub fn word(&mut self, place: u8) -> Result<u32, LineFault>
-        ensures { Taken word place (left_of self.old) result (left_of self.new) }
-    {
-        match self.next() {
-            Some(field) => match word_in(field) {
-                Some(w) => Ok(w),
-                None => Err(LineFault::Unreadable { field: place }),
-            },
-            None => Err(LineFault::Unreadable { field: place }),
-        }
+        let fault = LineFault::Unreadable { field: place };
+        T::from_field(self.next().ok_or(fault)?).ok_or(fault)
     }
 
     // No field is left, at `place` or after it.
-    pub fn end(&mut self, place: u8) -> Result<(), LineFault>
+    pub fn end(&mut self, place: u64) -> Result<(), LineFault>
         ensures { Ended place (left_of self.old) result (left_of self.new) }
     {
         match self.next() {
             Some(_) => Err(LineFault::Unreadable { field: place }),
             None => Ok(()),
         }
+    }
+
+    // The values that are in all the fields left, the first at place 1.
+    pub fn last_values<T: FromField, const N: usize>(&mut self) -> Result<[T; N], LineFault>
+        ensures { HoldsJust T.reading N (left_of self.old) result }
+    {
+        let mut values = [T::default(); N];
+        for (before, value) in values.iter_mut().enumerate() {
+            *value = self.value(before as u64 + 1)?;
+        }
+        self.end(N as u64 + 1)?;
+        Ok(values)
     }
 }

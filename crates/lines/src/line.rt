@@ -1,14 +1,72 @@
 // A line that comes byte by byte, of which the first 48 bytes are kept: they decide what a line of a listing holds.
-ghost use Rattle.std.specs.Prelude.{◌≡◌, ◌≤◌, length};
+ghost use Rattle.std.specs.Prelude.{◌≡◌, ℕ, List, [], ◌∷◌, ◌++◌, length, take, ◌==◌};
+ghost use Rattle.lines.specs.Kept.{kept};
 
-pub mod keep;
+use arrayvec::ArrayVec;
 
 const KEPT_BYTES: usize = 48;
 
-#[derive(Drop)]
+#[derive(Default, Drop)]
 pub struct Line {
-    bytes: [u8; KEPT_BYTES],
-    len: usize,
-    ghost within: { len ≤ 48 },
-    ghost long: { length bytes ≡ 48 },
+    bytes: ArrayVec<u8, KEPT_BYTES>,
+}
+
+impl Line {
+    // A line of which no byte has come.
+    pub fn new() -> Line
+        ensures { kept result ≡ [] }
+    {
+        Line::default()
+    }
+
+    // One byte more, which is kept where there is room: what is kept goes on to be the front of the line that has come.
+    pub fn push(&mut self, b: u8)
+        ensures adds { kept self.new ≡ take 48 (kept self.old ++ (b ∷ [])) }
+        ensures front { (whole : List ℕ) → kept self.old ≡ take 48 whole → kept self.new ≡ take 48 (whole ++ (b ∷ [])) }
+    {
+        if !self.bytes.is_full() {
+            self.bytes.push(b);
+        }
+    }
+
+    // The next line, of which no byte has come.
+    pub fn clear(&mut self)
+        ensures { kept self.new ≡ [] }
+    {
+        self.bytes.clear();
+    }
+
+    // No byte is kept, so none has come.
+    pub fn is_empty(&self) -> bool
+        ensures { result ≡ (length (kept self.now) == 0) }
+    {
+        self.bytes.is_empty()
+    }
+
+    // The bytes that are kept.
+    pub fn bytes(&self) -> &[u8]
+        ensures { result.now ≡ kept self.now }
+    {
+        self.bytes.as_slice()
+    }
+}
+
+#[cfg(test)]
+mod tests {
+    use super::*;
+
+    #[test]
+    fn keeps_the_front(rt: HostRuntime) {
+        let mut line = Line::new();
+        assert!(rt; line.is_empty());
+        for b in b'0'..b'p' {
+            line.push(b);
+        }
+        assert_eq!(rt;
+            line.bytes(),
+            b"0123456789:;<=>?@ABCDEFGHIJKLMNOPQRSTUVWXYZ[\\]^_".as_slice()
+        );
+        line.clear();
+        assert!(rt; line.is_empty());
+    }
 }

@@ -1,19 +1,17 @@
 -- An input has one printing: each line tells one text and one count, and the line feeds cut the input in one way. Assumes nothing.
-use Rattle.std.proofs.Common.{◌≡◌, ℕ, ◌⊎◌, List, [], ◌∷◌, ◌++◌, get_or, ℤ, Ok, Err, Result, sym, refl, ap, ◌∙◌, subst, inl, inr, append_assoc, arith}
-use Rattle.std.specs.List.{AllByRecursion}
+use Rattle.std.proofs.Common.{◌≡◌, ℕ, ◌⊎◌, List, [], ◌∷◌, ◌++◌, Ok, Err, Result, sym, refl, ap, ◌∙◌, subst, inl, inr, append_assoc, arith}
+use Rattle.std.proofs.lemmas.List.Elements.{All-head, All-tail}
+use Rattle.std.specs.List.{All}
 use Rattle.bounds.specs.declared.bound.Bound.{Bound as BoundT}
-use Rattle.bounds.specs.declared.fault.BoundFault.{BoundFault}
-use Rattle.bounds.specs.Making.{Made, row_of}
+use Rattle.bounds.specs.Making.{row_of}
 use Rattle.bounds.proofs.Makes.{SameBound, made_once}
 use Rattle.lines.specs.declared.fault.LineFault.{LineFault}
 use Rattle.lines.specs.declared.fault.LineFault.TheVariants.{Unreadable}
-use Rattle.lines.specs.declared.listing.Figures.{Figures}
 use Rattle.lines.specs.Decimal.{number}
 use Rattle.lines.specs.Hex.{word}
 use Rattle.lines.specs.Reading.{readings, listed}
 use Rattle.lines.specs.Fields.{fields}
-use Rattle.lines.specs.Listing.{figures_of, FourNumbers, ThreeWords}
-use Rattle.words.specs.declared.fault.WordFault.{WordFault}
+use Rattle.lines.specs.Listing.{FourNumbers, ThreeWords}
 use Rattle.words.specs.Words.{row_words}
 use Rattle.words.specs.Reading.{BoundRead}
 use Rattle.words.proofs.Readings.{bound_read_once}
@@ -26,9 +24,9 @@ use Rattle.listings.specs.declared.task.Task.{Task}
 use Rattle.listings.specs.declared.task.Task.TheVariants.{Write, Read, RoundTrip}
 use Rattle.listings.specs.Faults.{of_bound, of_word}
 use Rattle.listings.specs.Counts.{counted, none_yet}
-use Rattle.listings.specs.Lines.{BoundLine, WordsLine, LineOf, EntryOf}
+use Rattle.listings.specs.Lines.{at, FourMake, BoundLine, WordsLine, LineOf, EntryOf}
 use Rattle.listings.specs.Printing.{text_of_bound, text_of_refusal, text_of_entry}
-use Rattle.listings.specs.Sessions.{OneLine, ended, Tells, Answered, Session, Closes, OnePrinting}
+use Rattle.listings.specs.Sessions.{Plain, OneLine, ended, Tells, Answered, Session, Closes, OnePrinting}
 
 -- a fault of the layer below goes up, and a bound stays
 abbrev raised : {F : Type 0} → (F → ListingFault) → Result BoundT F → Result BoundT ListingFault
@@ -69,59 +67,40 @@ module _ {V F : Type 0} (Reads : Result V LineFault → Type 0) (Answers : V →
       let value : w ≡ v = cc in
       rw (i, j) (raised_same up a b (answers_once v a b m (subst (λ x. Answers x b) value n)))
 
--- fields read in one way, where a value is told by its list
-listed_once : {X Y : Type 0} (values : X → List Y) → ((x y : X) → values x ≡ values y → x ≡ y)
-    → (r : Result (List Y) ℕ) (n m : Result X LineFault) → r ≡ listed values n → r ≡ listed values m → n ≡ m
-listed_once values told r (Ok x) (Ok y) p q = ap (λ v. Ok v) (told x y (cc))
-listed_once values told r (Ok x) (Err e) p q = cc
-listed_once values told r (Err d) (Ok y) p q = cc
-listed_once values told r (Err (Unreadable j)) (Err (Unreadable k)) p q = cc
-
-figures_at : ℤ → ℤ → ℤ → ℤ → Figures
-figures_at l r t s = record { left = l; right = r; t = t; s = s }
-
--- four numbers are told by their list
-figures_told : (f g : Figures) → figures_of f ≡ figures_of g → f ≡ g
-unfolding figures_at
-figures_told f g p =
-    let same : figures_at f.left f.right f.t f.s ≡ figures_at g.left g.right g.t g.s = cc in
-    same
-
--- what four numbers are answered
-abbrev Makes : Figures → Result BoundT BoundFault → Type 0
-Makes f a = Made f.left f.right f.t f.s a
-
--- what three words are answered
-abbrev RowOfWords : List ℕ → Result BoundT WordFault → Type 0
-RowOfWords ws a = BoundRead (get_or ws 0 0) (get_or ws 1 0) (get_or ws 2 0) a
+-- fields are read in one way
+listed_once : {X : Type 0} (r : Result (List X) ℕ) (n m : Result (List X) LineFault) → r ≡ listed n → r ≡ listed m → n ≡ m
+listed_once r (Ok x) (Ok y) p q = cc
+listed_once r (Ok x) (Err e) p q = cc
+listed_once r (Err d) (Ok y) p q = cc
+listed_once r (Err (Unreadable j)) (Err (Unreadable k)) p q = cc
 
 -- what one line holds
 module _ (line : List ℕ) where
   -- a line of numbers is answered by way of its fields
-  bound_through : (q : Result BoundT ListingFault) → BoundLine line q → Through (FourNumbers (fields line)) Makes of_bound q
+  bound_through : (q : Result BoundT ListingFault) → BoundLine line q → Through (FourNumbers (fields line)) FourMake of_bound q
   bound_through (Ok b) (f, reads, made) = inr (f, Ok b, reads, made, refl)
   bound_through (Err (Line e)) reads = inl (e, reads, refl)
   bound_through (Err (Bound e)) (f, reads, out) = inr (f, Err e, reads, out, refl)
   bound_through (Err (Word e)) never = absurd never
 
   -- and so is a line of words
-  words_through : (q : Result BoundT ListingFault) → WordsLine line q → Through (ThreeWords (fields line)) RowOfWords of_word q
+  words_through : (q : Result BoundT ListingFault) → WordsLine line q → Through (ThreeWords (fields line)) BoundRead of_word q
   words_through (Ok b) reads = inr (row_words (row_of b), Ok b, reads, refl, refl)
   words_through (Err (Line e)) reads = inl (e, reads, refl)
   words_through (Err (Bound e)) never = absurd never
-  words_through (Err (Word e)) (h, t, s, reads, broken) = inr (h ∷ (t ∷ (s ∷ [])), Err e, reads, broken, refl)
+  words_through (Err (Word e)) (ws, reads, broken) = inr (ws, Err e, reads, broken, refl)
 
   -- a line of numbers has one answer
   bound_line_once : (q r : Result BoundT ListingFault) → BoundLine line q → BoundLine line r → SameBound q r
   bound_line_once q r h g =
-      through_once (FourNumbers (fields line)) Makes of_bound (listed_once figures_of figures_told (readings number 1 4 (fields line)))
-      (λ f. made_once f.left f.right f.t f.s) q r (bound_through q h) (bound_through r g)
+      through_once (FourNumbers (fields line)) FourMake of_bound (listed_once (readings number 1 4 (fields line)))
+      (λ ns. made_once (at ns 0) (at ns 1) (at ns 2) (at ns 3)) q r (bound_through q h) (bound_through r g)
 
   -- a line of words has one answer
   words_line_once : (q r : Result BoundT ListingFault) → WordsLine line q → WordsLine line r → SameBound q r
   words_line_once q r h g =
-      through_once (ThreeWords (fields line)) RowOfWords of_word (listed_once (λ ws. ws) (λ x y e. e) (readings word 1 3 (fields line)))
-      (λ ws. bound_read_once (get_or ws 0 0) (get_or ws 1 0) (get_or ws 2 0)) q r (words_through q h) (words_through r g)
+      through_once (ThreeWords (fields line)) BoundRead of_word (listed_once (readings word 1 3 (fields line)))
+      bound_read_once q r (words_through q h) (words_through r g)
 
   -- a line holds one bound for a task, or is refused for one fault
   line_once : (task : Task) (q r : Result BoundT ListingFault) → LineOf task line q → LineOf task line r → SameBound q r
@@ -161,19 +140,19 @@ answered_once task (line ∷ lines) c d e x y (first, more, between, cut, tells,
 -- the first line feed ends the line
 first_cut : (a b u v : List ℕ) → OneLine a → OneLine b → a ++ (10 ∷ u) ≡ b ++ (10 ∷ v) → (a ≡ b) × (u ≡ v)
 first_cut [] [] u v p q e = (refl, cc)
-first_cut [] (y ∷ b) u v p (other, q) e = absurd (other (cc))
-first_cut (x ∷ a) [] u v (other, p) q e = absurd (other (cc))
-first_cut (x ∷ a) (y ∷ b) u v (i, p) (j, q) e =
+first_cut [] (y ∷ b) u v p q e = absurd (All-head Plain y b q (cc))
+first_cut (x ∷ a) [] u v p q e = absurd (All-head Plain x a p (cc))
+first_cut (x ∷ a) (y ∷ b) u v p q e =
     let rest : a ++ (10 ∷ u) ≡ b ++ (10 ∷ v) = cc in
-    let more = first_cut a b u v p q rest in
+    let more = first_cut a b u v (All-tail Plain x a p) (All-tail Plain y b q) rest in
     (cc, more.1)
 
 -- a part of a line has no line feed
 no_feed : (a u x : List ℕ) → OneLine x → a ++ (10 ∷ u) ≡ x → ⊥
 no_feed [] u [] p e = let z : ◌≡◌ {A = ℕ} 0 1 = cc in omega arith
-no_feed [] u (y ∷ x) (other, p) e = other (cc)
+no_feed [] u (y ∷ x) p e = All-head Plain y x p (cc)
 no_feed (b ∷ a) u [] p e = let z : ◌≡◌ {A = ℕ} 0 1 = cc in omega arith
-no_feed (b ∷ a) u (y ∷ x) (other, p) e = no_feed a u x p (cc)
+no_feed (b ∷ a) u (y ∷ x) p e = no_feed a u x (All-tail Plain y x p) (cc)
 
 -- lines are the first line, its line feed, and the others
 opens : (line : List ℕ) (lines : List (List ℕ)) (x : List ℕ) → ended (line ∷ lines) ++ x ≡ line ++ (10 ∷ (ended lines ++ x))
@@ -181,13 +160,15 @@ opens line lines x = append_assoc (line ++ (10 ∷ [])) (ended lines) x ∙ appe
 
 -- The line feeds cut bytes into lines and a part of one in one way: the first line ends at the first line feed, and so
 -- do the others in what comes after it.
-ended_once : (ls ms : List (List ℕ)) (x y : List ℕ) → AllByRecursion OneLine ls → AllByRecursion OneLine ms → OneLine x → OneLine y → ended ls ++ x ≡ ended ms ++ y → (ls ≡ ms) × (x ≡ y)
+ended_once : (ls ms : List (List ℕ)) (x y : List ℕ) → All OneLine ls → All OneLine ms → OneLine x → OneLine y
+    → ended ls ++ x ≡ ended ms ++ y → (ls ≡ ms) × (x ≡ y)
 ended_once [] [] x y p q i j e = (refl, e)
 ended_once [] (m ∷ ms) x y p q i j e = absurd (no_feed m (ended ms ++ y) x i (sym (e ∙ opens m ms y)))
 ended_once (l ∷ ls) [] x y p q i j e = absurd (no_feed l (ended ls ++ x) y j (sym (opens l ls x) ∙ e))
-ended_once (l ∷ ls) (m ∷ ms) x y (o, p) (o', q) i j e =
-    let first = first_cut l m (ended ls ++ x) (ended ms ++ y) o o' (sym (opens l ls x) ∙ (e ∙ opens m ms y)) in
-    let others = ended_once ls ms x y p q i j first.1 in
+ended_once (l ∷ ls) (m ∷ ms) x y p q i j e =
+    let cut = sym (opens l ls x) ∙ (e ∙ opens m ms y) in
+    let first = first_cut l m (ended ls ++ x) (ended ms ++ y) (All-head OneLine l ls p) (All-head OneLine m ms q) cut in
+    let others = ended_once ls ms x y (All-tail OneLine l ls p) (All-tail OneLine m ms q) i j first.1 in
     (cc, others.1)
 
 -- an input from the start of a line has one text before its end, and one part is left

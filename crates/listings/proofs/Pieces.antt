@@ -1,13 +1,13 @@
 -- The input in pieces: what one byte does, and how two pieces join. Assumes nothing.
 use Rattle.std.proofs.Common.{◌≡◌, ℕ, ◌+◌, ◌<◌, List, [], ◌∷◌, ◌++◌, length, get_or, take, Ok, Err, Result, sym, refl, ap, ◌∙◌, subst, append_assoc, append-nil, arith, lit≤}
-use Rattle.std.proofs.ByRecursion.{All-append, All-push}
+use Rattle.std.proofs.lemmas.List.Elements.{All-nil, All-cons, All-append, All-push}
 use Rattle.std.proofs.lemmas.List.{get_or-take, take_more}
 use Rattle.bounds.specs.declared.bound.Bound.{Bound as BoundT}
 use Rattle.lines.specs.Decimal.{number}
 use Rattle.lines.specs.Hex.{word}
 use Rattle.lines.specs.Kept.{kept}
 use Rattle.lines.proofs.Front.{decided}
-use Rattle.lines.proofs.Values.{number_long, word_long}
+use Rattle.lines.specs.Lengths.{number_long, word_long}
 use Rattle.listings.specs.declared.entry.Entry.{Entry}
 use Rattle.listings.specs.declared.entry.Entry.TheVariants as entries
 use Rattle.listings.specs.declared.fault.ListingFault.{ListingFault}
@@ -19,7 +19,7 @@ use Rattle.listings.specs.declared.tool.Tool.{Tool}
 use Rattle.listings.specs.Lines.{BoundLine, WordsLine, LineOf, EntryOf}
 use Rattle.listings.specs.Printing.{text_of_summary}
 use Rattle.listings.specs.Counts.{none_yet}
-use Rattle.listings.specs.Sessions.{OneLine, ended, Tells, Answered, Session, Closes}
+use Rattle.listings.specs.Sessions.{Plain, OneLine, ended, Tells, Answered, Session, Closes}
 use Rattle.listings.specs.Tools.{Follows, EndsWith, PiecesJoin, WholePrints}
 
 -- the first 48 bytes of a line decide what it holds
@@ -34,7 +34,7 @@ module _ (whole : List ℕ) where
   words_front (Ok b) reads = decided word 8 word_long 3 1 48 (take 48 whole) whole _ (lit≤ tt) refl reads
   words_front (Err (Line e)) reads = decided word 8 word_long 3 1 48 (take 48 whole) whole _ (lit≤ tt) refl reads
   words_front (Err (Bound e)) never = never
-  words_front (Err (Word e)) (h, t, s, reads, broken) = (h, t, s, decided word 8 word_long 3 1 48 (take 48 whole) whole _ (lit≤ tt) refl reads, broken)
+  words_front (Err (Word e)) (ws, reads, broken) = (ws, decided word 8 word_long 3 1 48 (take 48 whole) whole _ (lit≤ tt) refl reads, broken)
 
   line_front : (task : Task) (r : Result BoundT ListingFault) → LineOf task (take 48 whole) r → LineOf task whole r
   line_front Write r h = bound_front r h
@@ -81,7 +81,7 @@ Session-append task c d e part x y o p middle left s t = record {
 pub follows_none : (tool : Tool) (text : List ℕ) → text ≡ [] → Follows tool [] text tool
 follows_none tool text none = record {
   task = refl;
-  goes = λ part h. (part, h, record { lines = []; cut = append-nil part; whole = tt; answers = (none, refl) });
+  goes = λ part h. (part, h, record { lines = []; cut = append-nil part; whole = All-nil OneLine; answers = (none, refl) });
 }
 
 -- two pieces are answered as one
@@ -101,7 +101,7 @@ pub follows_byte : (before after : Tool) (b : ℕ) (text : List ℕ) → (b ≡ 
 follows_byte before after b text other none task tally front = record {
   task = task;
   goes = λ part h.
-      (part ++ (b ∷ []), (All-push (λ x. x ≡ 10 → ⊥) part b h.0 other, front part h.1), record { lines = []; cut = refl; whole = tt; answers = (none, tally) });
+      (part ++ (b ∷ []), (All-push Plain part b h.0 other, front part h.1), record { lines = []; cut = refl; whole = All-nil OneLine; answers = (none, tally) });
 }
 
 -- a line feed, which ends the line
@@ -111,11 +111,11 @@ follows_line before after b text feed task none tells = record {
   task = task;
   goes = λ part h. (
     [],
-    (tt, none),
+    (All-nil Plain, none),
     record {
       lines = part ∷ [];
       cut = ap (λ x. part ++ (x ∷ [])) feed ∙ (sym (append-nil (part ++ (10 ∷ []))) ∙ sym (append-nil ((part ++ (10 ∷ [])) ++ [])));
-      whole = (h.0, tt);
+      whole = All-cons OneLine part [] h.0 (All-nil OneLine);
       answers = (text, [], after.tally, sym (append-nil text), tells_whole before.task before.tally after.tally (kept before.line) part text h.1 tells, (refl, refl));
     },
   );
@@ -149,7 +149,7 @@ follows_push a b z piece i out text more within f g e =
 -- a fresh tool, the whole input, and its end
 pub whole_prints : WholePrints
 whole_prints task tool after input o p d fresh f closes =
-    let first = f.goes [] (tt, fresh.line_is) in
+    let first = f.goes [] (All-nil Plain, fresh.line_is) in
     record {
       answers = o;
       counts = after.tally;

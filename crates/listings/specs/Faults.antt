@@ -1,5 +1,5 @@
 -- Why a line of a listing holds no bound: the fault of a layer below, carried whole. Assumes nothing.
-use Rattle.std.specs.Prelude.{ℕ, List, codes}
+use Rattle.std.specs.Prelude.{ℕ, List}
 use Rattle.faults.specs.declared.Fault.{Fault}
 use Rattle.bounds.specs.declared.fault.BoundFault.{BoundFault}
 use Rattle.bounds.specs.Faults as bounds
@@ -28,6 +28,6 @@ fault_of (Word e) = words.fault_of e
 
 -- what is wrong, in words
 abbrev pub reason_of : ListingFault → List ℕ
-reason_of (Line e) = codes "a field is missing, unreadable or extra"
+reason_of (Line e) = lines.reason_of e
 reason_of (Bound e) = bounds.reason_of e
 reason_of (Word e) = words.reason_of e

@@ -1,7 +1,7 @@
-pub mod Text
 pub mod Faults
 pub mod Lines
 pub mod Counts
+pub mod Tasks
 pub mod Printing
 pub mod Sessions
 pub mod Tools

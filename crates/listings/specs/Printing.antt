@@ -4,7 +4,8 @@ use Rattle.faults.specs.Faults.{fault_text}
 use Rattle.bounds.specs.declared.row.Row.{Row}
 use Rattle.bounds.specs.Making.{row_of}
 use Rattle.bounds.specs.Text.{row_text}
-use Rattle.words.specs.Words.{head_word, part_word}
+use Rattle.words.specs.Text.{words_text}
+use Rattle.words.specs.Words.{row_words}
 use Rattle.listings.specs.declared.entry.Entry.{Entry}
 use Rattle.listings.specs.declared.entry.Entry.TheVariants.{Note, Bound, Refused}
 use Rattle.listings.specs.declared.fault.ListingFault.{ListingFault}
@@ -12,22 +13,16 @@ use Rattle.listings.specs.declared.task.Tally.{Tally}
 use Rattle.listings.specs.declared.task.Task.{Task}
 use Rattle.listings.specs.declared.task.Task.TheVariants.{Write, Read, RoundTrip}
 use Rattle.listings.specs.Faults.{fault_of, reason_of}
-use Rattle.listings.specs.Text.{hex_text}
 
 -- the end of a line
 abbrev pub line_feed : List ℕ
 line_feed = 10 ∷ []
 
--- the three words of a row in hexadecimal, a space between each two, and then the rest of the line
-abbrev pub words_then : Row → List ℕ → List ℕ
-words_then r rest =
-    hex_text (head_word r.left r.right) ++ (codes " " ++ (hex_text (part_word 2 r.t) ++ (codes " " ++ (hex_text (part_word 3 r.s) ++ rest))))
-
 -- the line for a bound: its words, its numbers, or its words and the numbers that they were read back as
 abbrev pub text_of_bound : Task → Row → List ℕ
-text_of_bound Write r = words_then r line_feed
+text_of_bound Write r = words_text (row_words r) ++ line_feed
 text_of_bound Read r = row_text r ++ line_feed
-text_of_bound RoundTrip r = words_then r (codes " -> " ++ (row_text r ++ line_feed))
+text_of_bound RoundTrip r = words_text (row_words r) ++ (codes " -> " ++ (row_text r ++ line_feed))
 
 -- the line for a refusal: the refused line's number, what is wrong, and the fault
 abbrev pub text_of_refusal : ℕ → ListingFault → List ℕ

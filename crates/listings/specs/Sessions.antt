@@ -1,6 +1,6 @@
 -- What the tool prints for an input, whatever the pieces in which the input comes. Assumes nothing.
 use Rattle.std.specs.Prelude.{◌≡◌, ℕ, List, [], ◌∷◌, ◌++◌, ◌≢◌}
-use Rattle.std.specs.List.{flat_map, AllByRecursion}
+use Rattle.std.specs.List.{flat_map, All}
 use Rattle.listings.specs.declared.entry.Entry.{Entry}
 use Rattle.listings.specs.declared.task.Tally.{Tally}
 use Rattle.listings.specs.declared.task.Task.{Task}
@@ -8,9 +8,13 @@ use Rattle.listings.specs.Counts.{counted, none_yet}
 use Rattle.listings.specs.Lines.{EntryOf}
 use Rattle.listings.specs.Printing.{text_of_entry, text_of_summary}
 
--- the bytes of a line have no line feed among them, which is byte 10
+-- a byte that is no line feed, which is byte 10
+abbrev pub Plain : ℕ → Type 0
+Plain b = b ≢ 10
+
+-- the bytes of a line have no line feed among them
 abbrev pub OneLine : List ℕ → Type 0
-OneLine line = AllByRecursion (λ b. b ≢ 10) line
+OneLine line = All Plain line
 
 -- lines, each with the line feed that ends it
 abbrev pub ended : List (List ℕ) → List ℕ
@@ -33,7 +37,7 @@ Answered task c (line ∷ lines) text d =
 pub record Session (task : Task) (c : Tally) (part input text : List ℕ) (d : Tally) (left : List ℕ) : Type 0 where
   pub lines : List (List ℕ)
   pub cut : part ++ input ≡ ended lines ++ left
-  pub whole : AllByRecursion OneLine lines
+  pub whole : All OneLine lines
   pub answers : Answered task c lines text d
 
 -- at the end of the input a part that is left is a line too, and the last line printed says how many were read and refused

@@ -5,8 +5,8 @@ ghost use Rattle.listings.specs.Lines.{BoundLine, WordsLine, LineOf, EntryOf};
 use crate::fault::ListingFault;
 use crate::task::Task;
 use bounds::Bound;
-use lines::listing::{four_numbers, three_words};
-use words::{bound_of, round_trip};
+use lines::listing::values;
+use words::{BoundWords, round_trip};
 
 // A line of a listing: a note, which begins with `#`, a bound, or neither.
 #[derive(Clone, Copy, PartialEq, Eq, Debug)]
@@ -20,28 +20,23 @@ pub enum Entry {
 pub fn bound_line(line: &[u8]) -> Result<Bound, ListingFault>
     ensures { BoundLine line.now result }
 {
-    let numbers = four_numbers(line)?;
-    let bound = Bound::new(numbers.left, numbers.right, numbers.t, numbers.s)?;
-    Ok(bound)
+    let [left, right, t, s]: [i64; 4] = values(line)?;
+    Ok(Bound::new(left, right, t, s)?)
 }
 
 // The bound of a line of three words, or why it has none.
 pub fn words_line(line: &[u8]) -> Result<Bound, ListingFault>
     ensures { WordsLine line.now result }
 {
-    let words = three_words(line)?;
-    let [head, t, s] = words;
-    let bound = bound_of(head, t, s)?;
-    Ok(bound)
+    let words = BoundWords(values(line)?);
+    Ok(Bound::try_from(words)?)
 }
 
 // The bound of a line of four decimal numbers, once it has been written as words and read back from them.
 fn returned_line(line: &[u8]) -> Result<Bound, ListingFault>
     ensures { BoundLine line.now result }
 {
-    let bound = bound_line(line)?;
-    let back = round_trip(bound)?;
-    Ok(back)
+    Ok(round_trip(bound_line(line)?)?)
 }
 
 // The bound of a line in the form that the task reads, or why it has none.
@@ -58,10 +53,7 @@ fn held(task: Task, line: &[u8]) -> Result<Bound, ListingFault>
 fn is_note(line: &[u8]) -> bool
     ensures { result ≡ (slice_index line.now 0 == 35) }
 {
-    match line {
-        [first, ..] => *first == b'#',
-        [] => false,
-    }
+    line.first() == Some(&b'#')
 }
 
 // What a line holds for the task.

@@ -1,9 +1,11 @@
-ghost use Rattle.std.specs.Prelude.{◌≡◌};
+ghost use Rattle.std.specs.Prelude.{◌≡◌, Some};
 ghost use Rattle.listings.specs.Faults.{of_line, of_bound, of_word, fault_of, reason_of};
 
 use bounds::BoundFault;
 use faults::Fault;
 use lines::fault::LineFault;
+use std::error::Error;
+use std::fmt;
 use words::WordFault;
 
 // Why a line of a listing holds no bound: a fault of a layer below, carried whole.
@@ -38,26 +40,30 @@ impl From<WordFault> for ListingFault {
     }
 }
 
-impl ListingFault {
-    // The number, layer and place of the fault below.
-    pub fn fault(self) -> Fault
-        ensures { result ≡ fault_of self }
-    {
-        match self {
-            ListingFault::Line(e) => e.fault(),
-            ListingFault::Bound(e) => e.fault(),
-            ListingFault::Word(e) => e.fault(),
-        }
-    }
+// The number, layer and place of the fault below.
+impl From<ListingFault> for Fault {
+    ghost from_gives = { λ e f. f ≡ fault_of e };
 
-    // What is wrong, in words.
-    pub fn reason(self) -> &'static str
-        ensures { result.now ≡ reason_of self }
-    {
-        match self {
-            ListingFault::Line(_) => "a field is missing, unreadable or extra",
-            ListingFault::Bound(e) => e.reason(),
-            ListingFault::Word(e) => e.reason(),
+    fn from(fault: ListingFault) -> Fault {
+        match fault {
+            ListingFault::Line(e) => Fault::from(e),
+            ListingFault::Bound(e) => Fault::from(e),
+            ListingFault::Word(e) => Fault::from(e),
         }
     }
 }
+
+// What is wrong, in the words of the layer below.
+impl fmt::Display for ListingFault {
+    ghost output = { λ e. Some (reason_of e) };
+
+    fn fmt<W: fmt::Write>(&self, f: &mut fmt::Formatter<W>) -> fmt::Result {
+        match self {
+            ListingFault::Line(e) => write!(f, "{e}"),
+            ListingFault::Bound(e) => write!(f, "{e}"),
+            ListingFault::Word(e) => write!(f, "{e}"),
+        }
+    }
+}
+
+impl Error for ListingFault {}

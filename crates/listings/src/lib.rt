@@ -3,13 +3,11 @@
 
 pub mod entry;
 pub mod fault;
-pub mod hex;
 pub mod task;
 pub mod text;
 pub mod tool;
 
 pub use entry::{Entry, bound_line, entry_of, words_line};
 pub use fault::ListingFault;
-pub use hex::Hex;
-pub use task::{Tally, Task};
+pub use task::{Tally, Task, UnknownTask};
 pub use tool::{Ending, Tool, run};

@@ -1,7 +1,11 @@
-ghost use Rattle.std.specs.Prelude.{◌≡◌};
-ghost use Rattle.listings.specs.Counts.{counted, none_yet};
+ghost use Rattle.std.specs.Prelude.{◌≡◌, Some};
+ghost use Rattle.listings.specs.Counts.{counted};
+ghost use Rattle.listings.specs.Tasks.{Names, unknown_text};
 
 use crate::entry::Entry;
+use std::error::Error;
+use std::fmt;
+use std::str::FromStr;
 
 // What the tool does with each line that holds a bound.
 #[derive(Clone, Copy, PartialEq, Eq, Debug)]
@@ -14,8 +18,37 @@ pub enum Task {
     RoundTrip,
 }
 
-// How many lines were read, and of which sort they were. A count that has come to 2^64 - 1 stays there.
+// A word that names no task.
 #[derive(Clone, Copy, PartialEq, Eq, Debug)]
+pub struct UnknownTask;
+
+impl fmt::Display for UnknownTask {
+    ghost output = { λ _. Some unknown_text };
+
+    fn fmt<W: fmt::Write>(&self, f: &mut fmt::Formatter<W>) -> fmt::Result {
+        write!(f, "unknown argument: write, read, or none for both")
+    }
+}
+
+impl Error for UnknownTask {}
+
+// The task that a word names. No word names the round trip, which is what is done where none is given.
+impl FromStr for Task {
+    type Err = UnknownTask;
+
+    ghost from_str_gives = { Names };
+
+    fn from_str(word: &str) -> Result<Task, UnknownTask> {
+        match word {
+            "write" => Ok(Task::Write),
+            "read" => Ok(Task::Read),
+            _ => Err(UnknownTask),
+        }
+    }
+}
+
+// How many lines were read, and of which sort they were. A count that has come to 2^64 - 1 stays there.
+#[derive(Clone, Copy, PartialEq, Eq, Default, Debug)]
 pub struct Tally {
     pub lines: u64,
     pub bounds: u64,
@@ -24,17 +57,6 @@ pub struct Tally {
 }
 
 impl Tally {
-    pub fn new() -> Tally
-        ensures { result ≡ none_yet }
-    {
-        Tally {
-            lines: 0,
-            bounds: 0,
-            notes: 0,
-            refused: 0,
-        }
-    }
-
     // The counts with one line more.
     pub fn count(self, entry: Entry) -> Tally
         ensures { result ≡ counted entry self }

@@ -6,23 +6,22 @@ ghost use Rattle.listings.specs.Printing.{text_of_bound, text_of_refusal, text_o
 
 use crate::entry::Entry;
 use crate::fault::ListingFault;
-use crate::hex::Hex;
 use crate::task::{Tally, Task};
 use bounds::Bound;
+use faults::Fault;
 use std::alloc::{AllocError, Global};
-use words::words_of;
+use words::BoundWords;
 
 // The line that the task prints for a bound.
 fn bound_text(heap: Global, task: Task, bound: Bound) -> Result<String, AllocError>
     ensures { IfOk result (λ x. string_bytes x ≡ text_of_bound task (row_of bound)) }
 {
     let row = bound.row();
-    let [head, t, s] = words_of(bound);
-    let (head, t, s) = (Hex(head), Hex(t), Hex(s));
+    let words = BoundWords::from(bound);
     match task {
-        Task::Write => format!(in heap; "{head} {t} {s}\n"),
+        Task::Write => format!(in heap; "{words}\n"),
         Task::Read => format!(in heap; "{row}\n"),
-        Task::RoundTrip => format!(in heap; "{head} {t} {s} -> {row}\n"),
+        Task::RoundTrip => format!(in heap; "{words} -> {row}\n"),
     }
 }
 
@@ -30,9 +29,8 @@ fn bound_text(heap: Global, task: Task, bound: Bound) -> Result<String, AllocErr
 fn refusal_text(heap: Global, number: u64, fault: ListingFault) -> Result<String, AllocError>
     ensures { IfOk result (λ x. string_bytes x ≡ text_of_refusal number fault) }
 {
-    let reason = fault.reason();
-    let fault = fault.fault();
-    format!(in heap; "line {number} refused: {reason} ({fault})\n")
+    let told = Fault::from(fault);
+    format!(in heap; "line {number} refused: {fault} ({told})\n")
 }
 
 fn printed(heap: Global, task: Task, number: u64, entry: Entry) -> Result<String, AllocError>

@@ -38,7 +38,7 @@ impl Tool {
         Tool {
             task,
             line: Line::new(),
-            tally: Tally::new(),
+            tally: Tally::default(),
         }
     }
 

@@ -1,19 +1,19 @@
 -- Reads of lists, and what the checks of times and of chains keep from turn to turn. Assumes nothing.
-use Rattle.std.proofs.Common.{◌≡◌, ℕ, ◌+◌, ◌*◌, ◌<◌, ◌≤◌, Bool, false, List, [], ◌∷◌, map, length, get_or, take, drop, Some, None, Decides, Option, sym, refl, ap, ◌∙◌, subst, ⊎_elim, arith, MatchOption}
+use Rattle.std.proofs.Common.{◌≡◌, ℕ, ◌+◌, ◌*◌, ◌<◌, ◌≤◌, Bool, false, List, [], ◌∷◌, map, length, get_or, take, drop, Some, None, Decides, Option, sym, refl, ap, ◌∙◌, subst, ⊎_elim, arith, Bor, option_copied}
+use Rattle.std.specs.Slice.{IsItemAt}
 use Rattle.std.proofs.lemmas.Simd.{map-map}
 use Rattle.std.specs.List.{All}
 use Rattle.std.proofs.lemmas.List.Elements.{All-map, All-nil, All-cons, All-head, All-tail}
 use Rattle.std.proofs.lemmas.List.{get_or-map, get_or_past, length-map, drop_more}
 use Rattle.std.proofs.lemmas.Bool.{both_ways, cases_lt}
 use Rattle.delays.specs.Kind.{Kind, Exact, Lawful, Within}
-use Rattle.delays.specs.Totals.{total}
-use Rattle.delays.proofs.TotalLaws.{first_total, total_next, within_none as total_none, small_within as total_small}
+use Rattle.delays.specs.Totals.{total, Summed}
 use Rattle.network.specs.Bounds.{Numbered}
 use Rattle.network.specs.Assignments.{Lt}
 use Rattle.network.specs.Walks.{sum_of, Walk, lefts, Apart}
 use Rattle.network.specs.Chains.{Chain}
 use Rattle.network.specs.Edges.{bound_of, bounds_of, LinkRead}
-use Rattle.network.specs.Checks.{sum_upto, PastReach, Cycle}
+use Rattle.network.specs.Checks.{sum_upto, PastReach, RowSummed, Cycle}
 use Rattle.network.specs.declared.link.Link.TheVariants.{Book}
 use Rattle.network.specs.declared.edge.Edge.{Edge}
 
@@ -24,10 +24,6 @@ answers_no never = (λ e. absurd (both_ways false refl e), λ p. absurd (never p
 -- an element of a mapped list, at any default
 pub read_map : {X Y : Type 0} (f : X → Y) (xs : List X) (i : ℕ) (x : X) (d : Y) → i < length xs → x ≡ get_or xs i x → f x ≡ get_or (map f xs) i d
 read_map f xs i x d h is = ap f is ∙ sym (get_or-map f xs i x d h)
-
--- past its end a mapped list has the default
-pub read_past : {X Y : Type 0} (f : X → Y) (xs : List X) (i : ℕ) (d : Y) → length xs ≤ i → d ≡ get_or (map f xs) i d
-read_past f xs i d h = sym (get_or_past (map f xs) i d (rw (length-map xs f) h))
 
 -- what is left from a place on begins with the element there
 pub drop_read : {X : Type 0} (xs : List X) (i : ℕ) (x : X) → i < length xs → x ≡ get_or xs i x → drop i xs ≡ x ∷ drop (i + 1) xs
@@ -46,6 +42,11 @@ module _ {X : Type 0} (k : Kind) (means : X → Exact k) where
   pub sum_is : (row : List (Edge X)) → sum_of k (bounds_of k means row) ≡ total k (map (λ e. means e.delay) row)
   sum_is row = ap (total k) (map-map (λ b. b.delay) (bound_of k means) row)
 
+  -- what is so of the sums of a row's delays is so of those of its bounds
+  pub row_summed : (row : List (Edge X)) (r : Option X) → Summed k means (λ e. means e.delay) row r → RowSummed k means row r
+  row_summed row None past = (past.0, past.1, subst (λ x. k.reach < k.size x) (sym (sum_is (take past.0 row))) past.2)
+  row_summed row (Some v) sums = (sums.0 ∙ sym (sum_is row), λ n h. subst (Within k) (sym (sum_is (take n row))) (sums.1 n h))
+
   -- the bound of an edge has the edge's number
   pub numbered_bound : (row : List (Edge X)) (i : ℕ) (e : Edge X) → Numbered row i e → Numbered (bounds_of k means row) i (bound_of k means e)
   numbered_bound row i e at = (
@@ -53,11 +54,11 @@ module _ {X : Type 0} (k : Kind) (means : X → Exact k) where
     read_map (bound_of k means) row i e (bound_of k means e) at.0 at.1,
   )
 
-  -- the edge of the book with a number is what the link with that number names
-  pub numbered_named : (book : List (Edge X)) (posted : Edge X) (i : ℕ) (r : Option (Edge X)) → MatchOption r (length book ≤ i) (Numbered book i)
-      → LinkRead k means book posted (Book i) r
-  numbered_named book posted i None past = λ b at. let low : i < length (bounds_of k means book) = at.0 in omega (arith, length-map book (bound_of k means))
-  numbered_named book posted i (Some e) at = numbered_bound book i e at
+  -- what `get` lends at a number, copied, is the edge that the link with that number names
+  pub copied_named : (book : List (Edge X)) (posted : Edge X) (i : ℕ) (r : Option (Bor (Edge X))) → IsItemAt book i r
+      → LinkRead k means book posted (Book i) (option_copied r)
+  copied_named book posted i None at = λ b named. let low : i < length (bounds_of k means book) = named.0 in omega (arith, at, length-map book (bound_of k means))
+  copied_named book posted i (Some e) at = numbered_bound book i e.now (at.3.0, at.1)
 
   module _ (row : List (Edge X)) (to : ℕ) (at i : ℕ) (e : Edge X) (h : i < length row) (is : e ≡ get_or row i e) where
     -- what is left leads on from `at` exactly when its first edge leaves `at`, and the others lead on from there
@@ -67,16 +68,16 @@ module _ {X : Type 0} (k : Kind) (means : X → Exact k) where
     pub leads_more : (e.left ≡ at) × Walk e.right (bounds_of k means (drop (i + 1) row)) to → Walk at (bounds_of k means (drop i row)) to
     leads_more = subst (λ l. Walk at (bounds_of k means l) to) (sym (drop_read row i e h is))
 
-  module _ (row : List (Edge X)) (i : ℕ) (e : Edge X) (h : i < length row) (is : e ≡ get_or row i e) where
-    -- the left points of what is left are apart exactly when the first is none of the others, and those are apart
-    pub apart_first : Apart (map (λ e. e.left) (drop i row)) → All (λ x. ¬ (e.left ≡ x.left)) (drop (i + 1) row) × Apart (map (λ e. e.left) (drop (i + 1) row))
+  module _ (row : List (Edge X)) (e : Edge X) (others : List (Edge X)) (is : row ≡ e ∷ others) where
+    -- the left points of a row are apart exactly when the first is none of the others, and those are apart
+    pub apart_first : Apart (map (λ x. x.left) row) → All (λ x. ¬ (e.left ≡ x.left)) others × Apart (map (λ x. x.left) others)
     apart_first a =
-        let both = subst (λ (l : List (Edge X)). Apart (map (λ x. x.left) l)) (drop_read row i e h is) a in
-        (all_unmap (λ p. ¬ (e.left ≡ p)) (λ x. x.left) (drop (i + 1) row) both.0, both.1)
+        let both = subst (λ (l : List (Edge X)). Apart (map (λ x. x.left) l)) is a in
+        (all_unmap (λ p. ¬ (e.left ≡ p)) (λ x. x.left) others both.0, both.1)
 
-    pub apart_more : All (λ x. ¬ (e.left ≡ x.left)) (drop (i + 1) row) → Apart (map (λ e. e.left) (drop (i + 1) row)) → Apart (map (λ e. e.left) (drop i row))
-    apart_more others apart =
-        subst (λ (l : List (Edge X)). Apart (map (λ x. x.left) l)) (sym (drop_read row i e h is)) (All-map (λ p. ¬ (e.left ≡ p)) (λ x. x.left) (drop (i + 1) row) others, apart)
+    pub apart_more : All (λ x. ¬ (e.left ≡ x.left)) others → Apart (map (λ x. x.left) others) → Apart (map (λ x. x.left) row)
+    apart_more none apart =
+        subst (λ (l : List (Edge X)). Apart (map (λ x. x.left) l)) (sym is) (All-map (λ p. ¬ (e.left ≡ p)) (λ x. x.left) others none, apart)
 
   -- a cycle whose sum is s is a chain exactly when s is below zero
   pub chain_decided : (row : List (Edge X)) (r : Bool) (s : Exact k) → Cycle k means row
@@ -100,24 +101,3 @@ module _ {X : Type 0} (k : Kind) (means : X → Exact k) where
   -- sums within the reach are not past it
   pub not_past : (row : List (Edge X)) → ((n : ℕ) → n ≤ length row → Within k (sum_upto k means row n)) → PastReach k means row → ⊥
   not_past row within past = let here : Within k (sum_upto k means row past.0) = within past.0 past.1 in let over = past.2 in omega arith
-
--- The sum of a row is that of its delays, so what `delays` proves of sums of values holds of it.
-module _ {k : Kind} (laws : Lawful k) {X : Type 0} (means : X → Exact k) (row : List (Edge X)) where
-  upto_is : (n : ℕ) → sum_upto k means row n ≡ first_total laws (λ e. means e.delay) row n
-  upto_is n = sum_is k means (take n row)
-
-  pub sum_next : (i : ℕ) (e : Edge X) {s : Exact k} → i < length row
-      → e ≡ get_or row i e → s ≡ sum_upto k means row i → k.sum s (means e.delay) ≡ sum_upto k means row (i + 1)
-  sum_next i e h is so_far = total_next laws (λ e. means e.delay) row h is (so_far ∙ upto_is i) ∙ sym (upto_is (i + 1))
-
-  pub within_none : (n : ℕ) → n ≤ 0 → Within k (sum_upto k means row n)
-  within_none n h = subst (Within k) (sym (upto_is n)) (total_none laws (λ e. means e.delay) row n h)
-
-  pub within_next : (i : ℕ) → ((n : ℕ) → n ≤ i → Within k (sum_upto k means row n))
-      → Within k (sum_upto k means row (i + 1)) → (n : ℕ) → n ≤ i + 1 → Within k (sum_upto k means row n)
-  within_next i before next n h =
-      ⊎_elim (λ more. let same : i + 1 ≡ n = omega arith in subst (λ m. Within k (sum_upto k means row m)) same next) (λ less. before n less) (cases_lt i n)
-
-  pub small_within : 256 * k.greatest ≤ k.reach → length row ≤ 256
-      → All (λ e. k.size (means e.delay) ≤ k.greatest) row → (n : ℕ) → Within k (sum_upto k means row n)
-  small_within room few small n = subst (Within k) (sym (upto_is n)) (total_small laws (λ e. means e.delay) row room few small n)

@@ -1,10 +1,13 @@
 -- The bounds in force by number: those of the book, and then the floors. Assumes nothing.
-use Rattle.std.proofs.Common.{◌≡◌, ℕ, ◌+◌, ◌-◌, ◌<◌, ◌≤◌, length, sym, refl, ap, ◌∙◌, subst, arith, length-append}
+use Rattle.std.proofs.Common.{◌≡◌, ℕ, ◌+◌, ◌-◌, ◌<◌, ◌≤◌, List, length, ltb, Some, None, Option, is_some, IfSome, sym, refl, ap, ◌∙◌, subst, arith, length-append}
 use Rattle.std.specs.List.{All, Contains}
 use Rattle.std.proofs.lemmas.List.FromFn.{length-map-range_with_len, get_or-map-range_with_len}
 use Rattle.std.proofs.lemmas.List.Elements.{All-append, Contains-append_right, Contains-get_or}
-use Rattle.std.proofs.lemmas.List.{get_or_append_left, get_or-append_right}
-use Rattle.delays.specs.Kind.{Kind}
+use Rattle.std.proofs.lemmas.Bool.{ltb-true, ltb-false}
+use Rattle.std.proofs.lemmas.List.{length-map, get_or_append_left, get_or-append_right}
+use Rattle.delays.specs.Kind.{Kind, Exact}
+use Rattle.network.specs.declared.edge.Edge.{Edge}
+use Rattle.network.specs.Edges.{bound_of, bounds_of, InForceRead}
 use Rattle.network.specs.Bounds.{ExactBound, Bounds, floor_of, floors, Numbered, bounds_in_force, Inside}
 use Rattle.network.proofs.Counting.{all_counting}
 
@@ -24,6 +27,18 @@ force_floor k n book i past h =
       omega (arith, force_length k n book),
       sym (get_or-append_right book (floors k n) (length book) i (floor_of k p) refl past ∙ get_or-map-range_with_len (floor_of k) 0 n p p (floor_of k p) h (omega arith)),
     )
+
+-- past the book's numbers an edge that means the floor of the point with the number left over is read, where there is such a point
+pub floor_read : {X : Type 0} (k : Kind) (means : X → Exact k) (book : List (Edge X)) (points number : ℕ) (r : Option (Edge X)) → length book ≤ number
+    → is_some r ≡ ltb (number - length book) points → IfSome r (λ e. bound_of k means e ≡ floor_of k (number - length book))
+    → InForceRead k means book points number r
+floor_read k means book points number None past none is = omega (arith, ltb-false _ _ (sym none), force_length k points (bounds_of k means book), length-map book (bound_of k means))
+floor_read k means book points number (Some e) past some is =
+    let bounds = bounds_of k means book in
+    let long : length bounds ≡ length book = length-map book (bound_of k means) in
+    let low : number - length bounds < points = rw long (ltb-true _ _ (sym some)) in
+    let same : floor_of k (number - length bounds) ≡ bound_of k means e = ap (λ m. floor_of k (number - m)) long ∙ sym is in
+    subst (Numbered (bounds_in_force k points bounds) number) same (force_floor k points bounds number (rw long past) low)
 
 -- the floor of each point below n is in force
 pub floor_held : (k : Kind) (n : ℕ) (book : Bounds k) (p : ℕ) → p < n → Contains (bounds_in_force k n book) (floor_of k p)

@@ -17,10 +17,7 @@ module _ {k : Kind} (laws : Lawful k) where
   pub lt_le : (x y : Exact k) → Lt k x y → Le k x y
   lt_le x y h = ⊎_elim (λ e. e) (λ e. absurd (not_both k y x e h)) (laws.compares x y)
 
-  -- below what is at most, or at most what is below
-  pub lt_le_trans : (x y z : Exact k) → Lt k x y → Le k y z → Lt k x z
-  lt_le_trans x y z h l = ⊎_elim (λ e. absurd (not_both k y x (laws.transitive y z x l e) h)) (λ e. e) (cases_Bool (k.leq z x))
-
+  -- at most what is below
   pub le_lt_trans : (x y z : Exact k) → Le k x y → Lt k y z → Lt k x z
   le_lt_trans x y z l h = ⊎_elim (λ e. absurd (not_both k z y (laws.transitive z x y e l) h)) (λ e. e) (cases_Bool (k.leq z x))
 

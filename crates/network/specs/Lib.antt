@@ -9,3 +9,4 @@ pub mod Links
 pub mod Edges
 pub mod Checks
 pub mod Worked
+pub mod Reasons

@@ -1,7 +1,7 @@
 // Whether a row of edges is a chain.
-ghost use Rattle.std.specs.Prelude.{◌≡◌, ◌≤◌, true, map, length, All, is_some, Decides};
+ghost use Rattle.std.specs.Prelude.{◌≡◌, map, All, Decides};
+ghost use Rattle.delays.specs.Totals.{SmallAnswered};
 ghost use Rattle.network.specs.Checks.{Cycle, ChainChecked};
-ghost use Rattle.network.specs.Assignments.{Lt};
 ghost use Rattle.network.specs.Walks.{Apart};
 ghost use Rattle.network.specs.Chains.{ChainTheory};
 ghost use Rattle.network.specs.Rounds.{RoundsRepeat};
@@ -14,23 +14,20 @@ use delays::Delay;
 fn never_leaves<D: Delay>(row: &[Edge<D>], point: usize) -> bool
     ensures { Decides result (All (λ e. ¬ (point ≡ e.left)) row.now) }
 {
-    for edge in row {
-        if edge.left == point {
-            return false;
-        }
-    }
-    true
+    row.iter().all(|edge| edge.left != point)
 }
 
 // Whether no left point comes twice.
+#[tactic(auto, using(crate::proofs::Checking::apart_first, crate::proofs::Checking::apart_more))]
 fn lefts_apart<D: Delay>(row: &[Edge<D>]) -> bool
     ensures { Decides result (Apart (map (λ e. e.left) row.now)) }
 {
-    for i in 0..row.len() {
-        let edge = row[i];
-        if !never_leaves(&row[i + 1..], edge.left) {
+    let mut rest = row;
+    while let Some((edge, others)) = rest.split_first() {
+        if !never_leaves(others, edge.left) {
             return false;
         }
+        rest = others;
     }
     true
 }
@@ -39,17 +36,10 @@ fn lefts_apart<D: Delay>(row: &[Edge<D>]) -> bool
 fn is_cycle<D: Delay>(row: &[Edge<D>]) -> bool
     ensures { Decides result (Cycle D.kind D.means row.now) }
 {
-    if row.is_empty() {
+    let [first, ..] = row else {
         return true;
-    }
-    let first = row[0];
+    };
     leads(row, first.left, first.left) && lefts_apart(row)
-}
-
-fn below_zero<D: Delay>(sum: D) -> bool
-    ensures { Decides result (Lt D.kind (D.means sum) D.kind.zero) }
-{
-    !D::zero().at_most(sum)
 }
 
 // Whether the row is a chain: closed, with no left point twice and a sum below zero. Nothing is answered exactly when the row is closed
@@ -57,15 +47,13 @@ fn below_zero<D: Delay>(sum: D) -> bool
 // there is always an answer. Edges that hold a chain are met by no times.
 pub fn is_chain<D: Delay>(row: &[Edge<D>]) -> Option<bool>
     ensures answer { ChainChecked D.kind D.means row.now result }
-    ensures small { length row.now ≤ 256 → All (λ e. D.kind.size (D.means e.delay) ≤ D.kind.greatest) row.now → is_some result ≡ true }
+    ensures small { SmallAnswered D.kind (λ e. D.means e.delay) row.now result }
     ensures chains { ChainTheory D.kind }
     ensures rounds { RoundsRepeat D.kind }
 {
     if !is_cycle(row) {
         return Some(false);
     }
-    match sum(row) {
-        Some(sum) => Some(below_zero(sum)),
-        None => None,
-    }
+    let sum = sum(row)?;
+    Some(sum < D::zero())
 }

@@ -1,16 +1,24 @@
 // Bounds as values.
-ghost use Rattle.std.specs.Prelude.{◌≡◌, ◌≤◌, length, Decides, MatchOption};
-ghost use Rattle.network.specs.Bounds.{floor_of, Numbered};
+ghost use Rattle.std.specs.Prelude.{◌≡◌};
+ghost use Rattle.network.specs.Bounds.{floor_of};
 ghost use Rattle.network.specs.Edges.{bound_of, InForceRead};
 
-use delays::Delay;
+use delays::{Delay, HasDelay};
 
 // A bound between two points: left minus right is at most the delay.
-#[derive(Clone, Copy)]
+#[derive(Clone, Copy, PartialEq, Eq, Debug)]
 pub struct Edge<D> {
     pub left: usize,
     pub right: usize,
     pub delay: D,
+}
+
+impl<D: Delay> HasDelay<D> for Edge<D> {
+    ghost delay_of = { λ e. e.delay };
+
+    fn delay(&self) -> D {
+        self.delay
+    }
 }
 
 // The floor of a point: point 0 comes no later than it.
@@ -24,38 +32,16 @@ pub fn floor<D: Delay>(point: usize) -> Edge<D>
     }
 }
 
-// The edge with the number, or nothing exactly when the list has none.
-pub(crate) fn numbered<D: Delay>(edges: &[Edge<D>], number: usize) -> Option<Edge<D>>
-    ensures { MatchOption result (length edges.now ≤ number) (λ e. Numbered edges.now number e) }
-{
-    if number < edges.len() {
-        Some(edges[number])
-    } else {
-        None
-    }
-}
-
 // The edge in force with the number, where the book has these edges and there are so many points: an edge of the book, or after those
 // the floor of a point. Nothing exactly when none has the number.
 pub fn in_force<D: Delay>(book: &[Edge<D>], points: usize, number: usize) -> Option<Edge<D>>
     ensures { InForceRead D.kind D.means book.now points number result }
 {
-    match numbered(book, number) {
-        Some(edge) => Some(edge),
+    match book.get(number) {
+        Some(edge) => Some(*edge),
         None => {
             let point = number - book.len();
-            if point < points {
-                Some(floor(point))
-            } else {
-                None
-            }
+            (point < points).then(|| floor(point))
         }
     }
-}
-
-// Whether two values mean one delay.
-pub(crate) fn equal<D: Delay>(a: D, b: D) -> bool
-    ensures { Decides result (D.means a ≡ D.means b) }
-{
-    a.at_most(b) && b.at_most(a)
 }

@@ -1,11 +1,14 @@
 // The bounds of a chain as they are named to a caller, and their words.
-ghost use Rattle.std.specs.Prelude.{◌≡◌, ◌^◌, ◌≤◌, MatchOption};
+ghost use Rattle.std.specs.Prelude.{◌≡◌, Some, ◌+◌, ◌*◌, ◌^◌, ◌<◌, ◌≤◌, MatchResult};
 ghost use Rattle.network.specs.Edges.{LinkRead};
-ghost use Rattle.network.specs.Links.{top_bits, low_bits, HasWord, OneWord, OneLink};
+ghost use Rattle.network.specs.Links.{low_bits, HasWord, OneWord, OneLink};
+ghost use Rattle.network.specs.Reasons.{no_word_reason, no_link_reason};
 ghost use Rattle.network.specs.declared.link.Link.{Link as AnyLink};
 
-use crate::edge::{Edge, floor, numbered};
+use crate::edge::{Edge, floor};
 use delays::Delay;
+use std::error::Error;
+use std::fmt;
 
 // A bound of a chain.
 #[derive(Clone, Copy, PartialEq, Eq, Debug)]
@@ -18,56 +21,93 @@ pub enum Link {
     Posted,
 }
 
-// The unit of the two top bits, which is also one past the greatest number below them.
-const TOP: u32 = 0x4000_0000;
+// A link that has no word: its number is 2^30 or more.
+#[derive(Clone, Copy, PartialEq, Eq, Debug)]
+pub struct NoWord;
 
-impl Link {
-    // The two top bits of the word, and the number below them.
-    fn bits(self) -> (u32, u32)
-        ensures top { (result.0 ≡ top_bits self) × (result.0 ≤ 3) }
-        ensures low { result.1 ≡ low_bits self }
-    {
-        match self {
-            Link::Book { number } => (1, number),
-            Link::Floor { point } => (2, point),
-            Link::Posted => (3, 0),
-        }
+// A word that no link has.
+#[derive(Clone, Copy, PartialEq, Eq, Debug)]
+pub struct NoLink;
+
+impl fmt::Display for NoWord {
+    ghost output = { λ _. Some no_word_reason };
+
+    fn fmt<W: fmt::Write>(&self, f: &mut fmt::Formatter<W>) -> fmt::Result {
+        write!(f, "the number of the link is 2^30 or more")
     }
+}
 
-    // The word of the link, or nothing exactly when its number is 2^30 or more. A link has one word, and a word one link.
-    pub fn word(self) -> Option<u32>
-        ensures value { MatchOption result (2 ^ 30 ≤ low_bits self) (λ w. HasWord self w) }
+impl Error for NoWord {}
+
+impl fmt::Display for NoLink {
+    ghost output = { λ _. Some no_link_reason };
+
+    fn fmt<W: fmt::Write>(&self, f: &mut fmt::Formatter<W>) -> fmt::Result {
+        write!(f, "no link has this word")
+    }
+}
+
+impl Error for NoLink {}
+
+// The unit of the two top bits of a word, which is also one past the greatest number below them.
+const UNIT: u32 = 0x4000_0000;
+
+// The top bits of each sort of link.
+const BOOK: u32 = UNIT;
+const FLOOR: u32 = 2 * UNIT;
+const POSTED: u32 = 3 * UNIT;
+
+// The word with these top bits, and the number below them where it has room there.
+fn tagged(top: u32, low: u32) -> Result<u32, NoWord>
+    requires { top ≤ 3 * 2 ^ 30 }
+    ensures { MatchResult result (λ w. (low < 2 ^ 30) × (w ≡ top + low)) (λ _. 2 ^ 30 ≤ low) }
+{
+    if low < UNIT { Ok(top + low) } else { Err(NoWord) }
+}
+
+// The word of a link. A link has one word, and a word one link.
+impl TryFrom<Link> for u32 {
+    type Error = NoWord;
+
+    ghost try_from_gives = { λ link r. MatchResult r (HasWord link) (λ _. 2 ^ 30 ≤ low_bits link) };
+
+    fn try_from(link: Link) -> Result<u32, NoWord>
+        ensures value { MatchResult result (HasWord link) (λ _. 2 ^ 30 ≤ low_bits link) }
         ensures word { OneWord }
         ensures link { OneLink }
     {
-        let (top, low) = self.bits();
-        if low < TOP {
-            Some(top * TOP + low)
-        } else {
-            None
+        match link {
+            Link::Book { number } => tagged(BOOK, number),
+            Link::Floor { point } => tagged(FLOOR, point),
+            Link::Posted => tagged(POSTED, 0),
         }
     }
+}
 
-    // The link that has the word, or nothing exactly when none has it.
-    pub fn of_word(word: u32) -> Option<Link>
-        ensures { MatchOption result ((l : AnyLink) → HasWord l word → ⊥) (λ l. HasWord l word) }
-    {
-        let low = word % TOP;
-        match word / TOP {
-            1 => Some(Link::Book { number: low }),
-            2 => Some(Link::Floor { point: low }),
-            3 if low == 0 => Some(Link::Posted),
-            _ => None,
+// The link that has a word.
+impl TryFrom<u32> for Link {
+    type Error = NoLink;
+
+    ghost try_from_gives = { λ word r. MatchResult r (λ l. HasWord l word) (λ _. (l : AnyLink) → HasWord l word → ⊥) };
+
+    fn try_from(word: u32) -> Result<Link, NoLink> {
+        let low = word % UNIT;
+        match word - low {
+            BOOK => Ok(Link::Book { number: low }),
+            FLOOR => Ok(Link::Floor { point: low }),
+            POSTED if low == 0 => Ok(Link::Posted),
+            _ => Err(NoLink),
         }
     }
 }
 
 // The edge that the link names, or nothing exactly when the book has no bound with its number.
+#[tactic(auto, using(crate::proofs::Checking::copied_named))]
 pub fn edge_of<D: Delay>(link: Link, book: &[Edge<D>], posted: Edge<D>) -> Option<Edge<D>>
     ensures { LinkRead D.kind D.means book.now posted link result }
 {
     match link {
-        Link::Book { number } => numbered(book, number as usize),
+        Link::Book { number } => book.get(number as usize).copied(),
         Link::Floor { point } => Some(floor(point as usize)),
         Link::Posted => Some(posted),
     }

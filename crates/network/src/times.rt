@@ -1,12 +1,15 @@
 // Whether times meet bounds.
-ghost use Rattle.std.specs.Prelude.{◌≡◌};
+ghost use Rattle.std.specs.Prelude.{◌≡◌, Some};
+ghost use Rattle.network.specs.Reasons.{mismatch_reason};
 ghost use Rattle.network.specs.Edges.{time_of_point};
 ghost use Rattle.network.specs.Checks.{EdgeChecked, TimesChecked};
 ghost use Rattle.network.specs.Walks.{WalkTheory};
 ghost use Rattle.network.specs.Consistency.{Consistency};
 
-use crate::edge::{Edge, equal};
+use crate::edge::Edge;
 use delays::Delay;
+use std::error::Error;
+use std::fmt;
 
 // Why times are no assignment that meets the edges. It is the answer of a check, so it has no fault number.
 #[derive(Clone, Copy, PartialEq, Eq, Debug)]
@@ -19,15 +22,26 @@ pub enum Mismatch {
     Unmet { number: usize },
 }
 
+// What is wrong, in words.
+impl fmt::Display for Mismatch {
+    ghost output = { λ e. Some (mismatch_reason e) };
+
+    fn fmt<W: fmt::Write>(&self, f: &mut fmt::Formatter<W>) -> fmt::Result {
+        match self {
+            Mismatch::Start => write!(f, "the time of point 0 is not zero"),
+            Mismatch::Reach { number } => write!(f, "the limit of edge {number} is past the reach"),
+            Mismatch::Unmet { number } => write!(f, "edge {number} is not met"),
+        }
+    }
+}
+
+impl Error for Mismatch {}
+
 // The time of a point; points past the list are at zero.
 fn time_at<D: Delay>(times: &[D], point: usize) -> D
     ensures { D.means result ≡ time_of_point D.kind D.means times.now point }
 {
-    if point < times.len() {
-        times[point]
-    } else {
-        D::zero()
-    }
+    times.get(point).copied().unwrap_or(D::zero())
 }
 
 // Whether the times meet the edge, or nothing exactly when the limit that it sets, the right point's time plus the delay, is past the
@@ -37,28 +51,22 @@ pub fn meets<D: Delay>(edge: Edge<D>, times: &[D]) -> Option<bool>
 {
     let left = time_at(times, edge.left);
     let right = time_at(times, edge.right);
-    match right.add(edge.delay) {
-        Some(limit) => Some(left.at_most(limit)),
-        None => None,
-    }
+    let limit = right.add(edge.delay)?;
+    Some(left <= limit)
 }
 
 // The check of times, edge by edge.
 fn checked<D: Delay>(edges: &[Edge<D>], times: &[D]) -> Result<(), Mismatch>
     ensures { TimesChecked D.kind D.means edges.now times.now result }
 {
-    if !equal(time_at(times, 0), D::zero()) {
+    if time_at(times, 0) != D::zero() {
         return Err(Mismatch::Start);
     }
-    for number in 0..edges.len() {
-        let edge = edges[number];
-        match meets(edge, times) {
+    for (number, edge) in edges.iter().enumerate() {
+        match meets(*edge, times) {
+            Some(true) => {}
+            Some(false) => return Err(Mismatch::Unmet { number }),
             None => return Err(Mismatch::Reach { number }),
-            Some(met) => {
-                if !met {
-                    return Err(Mismatch::Unmet { number });
-                }
-            }
         }
     }
     Ok(())

@@ -1,27 +1,22 @@
 // Rows of edges: their sums, and where they lead.
-ghost use Rattle.std.specs.Prelude.{◌≡◌, ◌≤◌, true, length, All, is_some, Decides};
+ghost use Rattle.std.specs.Prelude.{Decides};
+ghost use Rattle.delays.specs.Totals.{SmallAnswered};
 ghost use Rattle.network.specs.Edges.{bounds_of};
 ghost use Rattle.network.specs.Checks.{RowSummed, ComesChecked};
 ghost use Rattle.network.specs.Walks.{Walk};
 ghost use Rattle.network.specs.Earliest.{EarliestTheory};
 
-use crate::edge::{Edge, equal};
-use delays::Delay;
+use crate::edge::Edge;
+use delays::{Delay, total};
 
 // The sum of the delays of a row, or nothing where a sum on the way leaves the reach. That of at most 256 edges, none with a delay of a
 // size above the greatest, is always had.
+#[tactic(auto, using(crate::proofs::Checking::row_summed))]
 pub fn sum<D: Delay>(row: &[Edge<D>]) -> Option<D>
     ensures sums { RowSummed D.kind D.means row.now result }
-    ensures small { length row.now ≤ 256 → All (λ e. D.kind.size (D.means e.delay) ≤ D.kind.greatest) row.now → is_some result ≡ true }
+    ensures small { SmallAnswered D.kind (λ e. D.means e.delay) row.now result }
 {
-    let mut sum = D::zero();
-    for edge in row {
-        match sum.add(edge.delay) {
-            Some(next) => sum = next,
-            None => return None,
-        }
-    }
-    Some(sum)
+    total(row)
 }
 
 // Whether the row leads from one point to another.
@@ -38,13 +33,6 @@ pub(crate) fn leads<D: Delay>(row: &[Edge<D>], from: usize, to: usize) -> bool
     at == to
 }
 
-// Whether the time is the opposite of the sum.
-fn is_opposite<D: Delay>(time: D, sum: D) -> bool
-    ensures { Decides result (D.means time ≡ D.kind.opposite (D.means sum)) }
-{
-    equal(time, sum.opposite())
-}
-
 // Whether the row leads from point 0 to the point, and the time is the opposite of its sum. Nothing is answered exactly when the row leads
 // there and a sum on the way leaves the reach. Where times meet a list of edges that has those of the row, such a time is the earliest.
 pub fn comes_over<D: Delay>(row: &[Edge<D>], point: usize, time: D) -> Option<bool>
@@ -54,8 +42,6 @@ pub fn comes_over<D: Delay>(row: &[Edge<D>], point: usize, time: D) -> Option<bo
     if !leads(row, 0, point) {
         return Some(false);
     }
-    match sum(row) {
-        Some(sum) => Some(is_opposite(time, sum)),
-        None => None,
-    }
+    let sum = sum(row)?;
+    Some(time == sum.opposite())
 }

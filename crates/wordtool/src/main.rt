@@ -15,13 +15,9 @@ fn task(rt: &HostRuntime) -> anyhow::Result<Task> {
     if words.next().is_some() {
         return Err(anyhow!("one argument at most: write, read, or none for both"));
     }
-    let Some(word) = first else {
-        return Ok(Task::RoundTrip);
-    };
-    match word.as_str() {
-        "write" => Ok(Task::Write),
-        "read" => Ok(Task::Read),
-        _ => Err(anyhow!("unknown argument: write, read, or none for both")),
+    match first {
+        Some(word) => Ok(word.as_str().parse::<Task>()?),
+        None => Ok(Task::RoundTrip),
     }
 }
 

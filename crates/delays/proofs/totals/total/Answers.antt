@@ -1,37 +1,35 @@
-use Rattle.std.proofs.Common.{◌+◌, ◌<◌, map, refl, ap, ◌∙◌, subst, arith, take_all}
-use Rattle.delays.specs.Kind.{Within}
-use Rattle.delays.specs.Totals.{total}
-use Rattle.delays.proofs.TheoryLaws.{theory}
-use Rattle.delays.proofs.TotalLaws.{total_next, within_none, within_next, small_within}
+use Rattle.std.proofs.Common.{◌+◌, ◌<◌, sym, ap, ◌∙◌, subst, arith}
+use Rattle.delays.specs.Totals.{total_upto, Summed}
+use Rattle.delays.proofs.TotalLaws.{sum_begins, sum_next, sum_goes_on, sum_ends, small_within}
 use Rattle.delays.proofs.totals.total.Goals as goal
 
 pub loop-x-init : goal.loop-x-init
-loop-x-init g c = (c.zero-sum.ensures, within_none g.met.D.Delay.lawful g.D.Delay.means c.args.xs.now)
-
-pub returns-in-None : goal.returns-in-None
-returns-in-None g c =
-    let d = g.D.Delay in
-    let xs = c.args.xs.now in
-    let sum_is_lem = total_next g.met.D.Delay.lawful d.means xs c.loop-x-test.true c.x-item.is c.loop-x.invariant.0 in
-    let over = subst (λ z. d.kind.reach < d.kind.size z) sum_is_lem c.in-None.ensures in
-    record {
-      sums = (c.loop-x.x-index + 1, omega arith, over);
-      small = λ few small. absurd (let never : ⊥ = omega (arith, over, small_within g.met.D.Delay.lawful d.means xs g.met.D.Delay.room few small (c.loop-x.x-index + 1)) in never);
-      theory = theory g.met.D.Delay.lawful;
-    }
+loop-x-init g c = sum_begins g.met.D.Delay.lawful c.zero-sum.ensures
 
 pub loop-x-preserved : goal.loop-x-preserved
 loop-x-preserved g c =
     let d = g.D.Delay in
-    let xs = c.args.xs.now in
-    let sum_is_lem = c.in-Some.ensures ∙ total_next g.met.D.Delay.lawful d.means xs c.loop-x-test.true c.x-item.is c.loop-x.invariant.0 in
-    (sum_is_lem, within_next g.met.D.Delay.lawful d.means xs c.loop-x.x-index c.loop-x.invariant.1 (subst (λ z. Within d.kind z) sum_is_lem (g.met.D.Delay.within c.in-Some.next)))
+    let added = c.in_ok-sum.ensures ∙ ap (λ x. d.kind.sum (d.means c.loop-x.sum) (d.means x)) c.delay.ensures in
+    sum_goes_on g.met.D.Delay.lawful c.loop-x-test.true c.x-item.is c.loop-x.invariant added (g.met.D.Delay.within c.in_ok-sum.sum)
 
-pub returns : goal.returns
-returns g c =
+-- the sum that leaves the reach
+past : (g : _) (c : goal.After-from_residual g)
+    → g.D.Delay.kind.reach < g.D.Delay.kind.size (total_upto g.D.Delay.kind (λ x. g.D.Delay.means (g.T.HasDelay.delay_of x)) c.args.xs.now (c.loop-x.x-index + 1))
+past g c =
     let d = g.D.Delay in
-    record {
-      sums = (c.loop-x.invariant.0 ∙ ap (λ xs. total d.kind (map d.means xs)) (take_all _ _ c.loop-x-test.false), λ n h. c.loop-x.invariant.1 n (omega arith));
-      small = λ few small. refl;
-      theory = theory g.met.D.Delay.lawful;
-    }
+    let next = ap (λ x. d.kind.sum (d.means c.loop-x.sum) (d.means x)) c.delay.ensures ∙ sum_next g.met.D.Delay.lawful c.loop-x-test.true c.x-item.is c.loop-x.invariant in
+    subst (λ z. d.kind.reach < d.kind.size z) next c.in_err-sum.ensures
+
+pub returns-in_err-sum-clause-sums : goal.returns-in_err-sum-clause-sums
+returns-in_err-sum-clause-sums g c =
+    let d = g.D.Delay in
+    subst (Summed d.kind d.means (λ x. d.means (g.T.HasDelay.delay_of x)) c.args.xs.now) (sym c.from_residual.ensures) (c.loop-x.x-index + 1, omega arith, past g c)
+
+pub returns-in_err-sum-clause-small : goal.returns-in_err-sum-clause-small
+returns-in_err-sum-clause-small g c few small =
+    let within = small_within g.met.D.Delay.lawful (λ x. g.D.Delay.means (g.T.HasDelay.delay_of x)) c.args.xs.now g.met.D.Delay.room few small (c.loop-x.x-index + 1) in
+    let never : ⊥ = omega (arith, past g c, within) in
+    absurd never
+
+pub returns-clause-sums : goal.returns-clause-sums
+returns-clause-sums g c = sum_ends g.met.D.Delay.lawful c.loop-x-test.false c.loop-x.auto.x-index-end c.loop-x.invariant

@@ -1,7 +1,8 @@
 use Rattle.network.proofs.Theorems.{walk_theory, consistency}
 use Rattle.network.proofs.times.check_times.Goals as goal
 
-pub returns : goal.returns
-returns g c =
-    let laws = g.met.D.Delay.lawful in
-    record { answer = c.checked.ensures; walks = walk_theory laws; consistency = consistency laws }
+pub returns-clause-walks : goal.returns-clause-walks
+returns-clause-walks g c = walk_theory g.met.D.Delay.lawful
+
+pub returns-clause-consistency : goal.returns-clause-consistency
+returns-clause-consistency g c = consistency g.met.D.Delay.lawful

@@ -1,21 +1,20 @@
-use Rattle.std.proofs.Common.{sym, ◌∙◌, subst}
+use Rattle.std.proofs.Common.{rules, ◌≡◌, Some, sym, ◌∙◌, subst}
 use Rattle.std.specs.List.{All}
 use Rattle.std.proofs.lemmas.List.Elements.{All-more, All-map, All-weaker}
 use Rattle.std.proofs.lemmas.List.{take_all}
 use Rattle.delays.specs.Kind.{Within}
 use Rattle.network.specs.Assignments.{Meets}
 use Rattle.network.specs.Edges.{bound_of, time_of_point}
-use Rattle.network.specs.Checks.{limit_at, Met, MetWithin}
+use Rattle.network.specs.Checks.{EdgeChecked, limit_at, Met, MetWithin}
 use Rattle.network.proofs.times.checked.Goals as goal
 
 pub loop-number-preserved : goal.loop-number-preserved
 loop-number-preserved g c =
-    let k = g.D.Delay.kind in
-    let times = c.args.times.now in
-    let P = MetWithin k g.D.Delay.means times in
-    let met = c.in-Some.ensures in
-    All-more P c.args.edges.now c.loop-number.number c.index-edges-number.result c.loop-number-test.true c.loop-number.invariant
-    (subst P c.index-edges-number.is (met.0, met.1.0 c.if-not-met.false))
+    let P = MetWithin g.D.Delay.kind g.D.Delay.means c.args.times.now in
+    let edge = c.index-edges-number in
+    let met = c.in-Some-true.ensures in
+    All-more P c.args.edges.now c.loop-number.number edge.result c.loop-number-test.true c.loop-number.invariant
+    (subst P edge.is (met.0, met.1.0 c.in-Some-true.field-0-test))
 
 pub returns : goal.returns
 returns g c =
@@ -24,9 +23,10 @@ returns g c =
     let edges = c.args.edges.now in
     let times = c.args.times.now in
     let P = MetWithin k means times in
+    let at_zero : means c.time_at.result ≡ means c.zero.result = search rules in
     let met : All P edges = subst (All P) (take_all _ edges c.loop-number-test.false) c.loop-number.invariant in (
       record {
-        zero_first = sym c.time_at.ensures ∙ (c.equal.ensures.0 c.if-not-equal.false ∙ c.zero.ensures);
+        zero_first = sym c.time_at.ensures ∙ (at_zero ∙ c.zero.ensures);
         meets = All-map (Meets k (time_of_point k means times)) (bound_of k means) edges (All-weaker P (Met k means times) (λ e h. h.1) edges met);
       },
       All-weaker P (λ e. Within k (limit_at k means times e)) (λ e h. h.0) edges met,

@@ -1,0 +1,63 @@
+// The whole numbers that values of kinds hold.
+ghost use Rattle.std.specs.Prelude.{◌≡◌, ◌<◌, ◌≤◌, ◌+ℤ◌, neg_ℤ, MatchOption, unsigned_abs};
+ghost use Rattle.delays.specs.Sizes.{number_reach};
+
+use std::ops::Neg;
+
+pub(crate) const SMALL_PART: u64 = 500_000_000;
+
+pub(crate) const REACH: u64 = 1_099_511_627_776;
+
+// A whole number of a size within the reach.
+#[derive(Clone, Copy, PartialEq, Eq, PartialOrd, Ord, Debug)]
+pub(crate) struct Number {
+    value: i64,
+    ghost within: { unsigned_abs value ≤ number_reach },
+}
+
+impl Number {
+    // The number, or nothing where it is past the reach.
+    pub(crate) fn new(value: i64) -> Option<Number>
+        ensures { MatchOption result (number_reach < unsigned_abs value) (λ n. n.value ≡ value) }
+    {
+        if value.unsigned_abs() <= REACH {
+            Some(Number { value })
+        } else {
+            None
+        }
+    }
+
+    // The sum, or nothing where it is past the reach.
+    pub(crate) fn checked_add(self, other: Number) -> Option<Number>
+        ensures { MatchOption result (number_reach < unsigned_abs (self.value +ℤ other.value)) (λ n. n.value ≡ self.value +ℤ other.value) }
+    {
+        Number::new(self.value + other.value)
+    }
+
+    pub(crate) fn value(self) -> i64
+        ensures { result ≡ self.value }
+    {
+        self.value
+    }
+}
+
+// Each number of 32 bits is within the reach.
+impl From<i32> for Number {
+    ghost from_gives = { λ value n. n.value ≡ value };
+
+    fn from(value: i32) -> Number {
+        Number {
+            value: value as i64,
+        }
+    }
+}
+
+impl Neg for Number {
+    type Output = Number;
+
+    ghost neg_gives = { λ x n. n.value ≡ neg_ℤ x.value };
+
+    fn neg(self) -> Number {
+        Number { value: -self.value }
+    }
+}

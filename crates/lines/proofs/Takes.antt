@@ -1,0 +1,46 @@
+-- Values that are taken one by one from the fields of a line.
+use Rattle.std.proofs.Common.{◌≡◌, ℕ, zero, suc, ◌+◌, ◌-◌, ◌<◌, List, [], ◌∷◌, ◌++◌, length, take, set, Ok, Err, Some, Option, Result, refl, ap, sym, ◌∙◌, inl, inr, append_assoc, add-one, arith}
+use Rattle.std.proofs.lemmas.List.{take_all, take_more_set}
+use Rattle.lines.specs.declared.fault.LineFault.{LineFault}
+use Rattle.lines.specs.Faults.{place_of}
+use Rattle.lines.specs.Reading.{with_first, readings, Taken, Ended}
+
+-- the values xs, and then those of a reading
+abbrev pub after : {X : Type 0} → List X → Result (List X) ℕ → Result (List X) ℕ
+after xs (Ok ys) = Ok (xs ++ ys)
+after xs (Err p) = Err p
+
+-- a value more is the first of those that are read
+after_more : {X : Type 0} (p : ℕ) (xs : List X) (x : X) (r : Result (List X) ℕ) → after xs (with_first p (Some x) r) ≡ after (xs ++ (x ∷ [])) r
+after_more p xs x (Ok ys) = ap Ok (sym (append_assoc xs (x ∷ []) ys))
+after_more p xs x (Err q) = refl
+
+-- no value is taken yet
+pub after_none : {X : Type 0} (r : Result (List X) ℕ) → after [] r ≡ r
+after_none (Ok ys) = refl
+after_none (Err q) = refl
+
+module _ {X : Type 0} (read : List ℕ → Option X) where
+  -- a field that is taken is one of those that were left
+  pub one_less : (p : ℕ) (fs gs : List (List ℕ)) (x : X) → Taken read p fs (Ok x) gs → length fs ≡ length gs + 1
+  one_less p fs gs x h = ap length h.1 ∙ sym (add-one (length gs))
+
+  -- where n values are to be read, i are there, and the next is taken
+  pub taken : (n i : ℕ) (xs : List X) (fs gs : List (List ℕ)) (x : X) → i < n → i < length xs → Taken read (i + 1) fs (Ok x) gs
+      → after (take i xs) (readings read (i + 1) (n - i) fs) ≡ after (take (i + 1) (set xs i x)) (readings read (i + 1 + 1) (n - (i + 1)) gs)
+  taken n i xs fs gs x h k t =
+      let left : n - i ≡ suc (n - (i + 1)) = omega arith in
+      ap (λ m. after (take i xs) (readings read (i + 1) m fs)) left
+      ∙ (ap (λ l. after (take i xs) (readings read (i + 1) (suc (n - (i + 1))) l)) t.1
+      ∙ (ap (λ o. after (take i xs) (with_first (i + 1) o (readings read (suc (i + 1)) (n - (i + 1)) gs))) t.2
+      ∙ (after_more (i + 1) (take i xs) x _
+      ∙ (ap (λ l. after l (readings read (suc (i + 1)) (n - (i + 1)) gs)) (sym (take_more_set xs i x k))
+      ∙ ap (λ q. after (take (i + 1) (set xs i x)) (readings read q (n - (i + 1)) gs)) (sym (add-one (i + 1)))))))
+
+  -- a field that is missing or bad ends the reading at its place
+  pub refused : (p k : ℕ) (fs gs : List (List ℕ)) (e : LineFault) → Taken read p fs (Err e) gs → readings read p (suc k) fs ≡ Err (place_of e)
+  refused p k fs gs e t =
+      elim t.1 [
+        | inl none ↦ ap (readings read p (suc k)) none.0 ∙ ap Err (sym (ap place_of t.0))
+        | inr (f, is, bad) ↦ ap (readings read p (suc k)) is ∙ (ap (λ o. with_first p o (readings read (suc p) k gs)) bad ∙ ap Err (sym (ap place_of t.0)))
+      ]
