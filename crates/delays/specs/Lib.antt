@@ -1,4 +1,5 @@
 pub mod Sizes
+pub mod SizesLaws
 pub mod Kind
 pub mod Theory
 pub mod OneNumber

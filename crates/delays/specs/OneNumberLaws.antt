@@ -3,9 +3,10 @@ use Rattle.std.specs.Prelude.{◌≡◌, ℕ, ◌≤◌, true, T, ◌⊎◌, Lis
 use Rattle.std.specs.Int.{w64}
 use Rattle.std.specs.Ordering.{int_cmp, int_eq, is_le}
 use Rattle.std.specs.Cmp.{signed_Decides}
-use Rattle.std.proofs.Common.{sym, ap, ◌∙◌, inl, inr, arith}
+use Rattle.std.proofs.Common.{sym, ap, ◌∙◌, inl, inr, ⊎_elim, arith}
 use Rattle.std.proofs.Math.IntN.{+ℤ_assoc, +ℤ_comm, +ℤ_idr, +ℤ_invr}
-use Rattle.std.proofs.lemmas.Int.{ints, by_lt_z}
+use Rattle.std.proofs.lemmas.Bool.{cases_Bool}
+use Rattle.std.proofs.lemmas.Int.{ints}
 use Rattle.delays.specs.Kind.{Row, Lawful}
 use Rattle.delays.specs.Sizes.{small_part, number_reach}
 use Rattle.delays.specs.OneNumber.{one_number, row_of, number_of, one_number_kind}
@@ -25,7 +26,7 @@ same_number x y e = sym (row_of_number x) ∙ ap row_of e ∙ row_of_number y
 
 -- of two numbers one is at most the other
 le_either : (a b : ℤ) → (int_le a b ≡ true) ⊎ (int_le b a ≡ true)
-le_either a b = by_lt_z a b (λ h. inl (grind (arith, ints))) (λ h. inr (grind (arith, ints)))
+le_either a b = ⊎_elim inl (λ e. inr (grind (arith, ints))) (cases_Bool (int_le a b))
 
 -- the laws of the parts, at numbers within the reach
 pub record PartsLawful (t s : ℤ → ℤ) (value : ℤ → ℤ → ℤ) (greatest : ℕ) : Type 0 where

@@ -1,5 +1,5 @@
 -- Ticks keep the laws of a kind. Assumes nothing.
-use Rattle.std.specs.Prelude.{◌*◌, ◌≤◌, pos, refl}
+use Rattle.std.specs.Prelude.{pos, refl}
 use Rattle.std.proofs.Common.{arith}
 use Rattle.std.proofs.lemmas.Int.{ints}
 use Rattle.delays.specs.Kind.{Lawful}
@@ -16,7 +16,3 @@ ticks_parts = record {
 
 pub ticks_lawful : Lawful ticks_kind
 ticks_lawful = one_number_lawful ticks_parts
-
--- the reach has room for 256 delays of the greatest size
-pub ticks_room : 256 * ticks_kind.greatest ≤ ticks_kind.reach
-ticks_room = omega arith

@@ -1,9 +1,10 @@
 // Delays in milliseconds.
 ghost use Rattle.std.specs.Prelude.{refl};
 ghost use Rattle.delays.specs.Sizes.{small_part, number_reach};
+ghost use Rattle.delays.specs.SizesLaws.{small_room};
 ghost use Rattle.delays.specs.OneNumberLaws.{number_ordered, number_equal};
 ghost use Rattle.delays.specs.Ticks.{tick, ticks_kind};
-ghost use Rattle.delays.specs.TicksLaws.{ticks_lawful, ticks_room};
+ghost use Rattle.delays.specs.TicksLaws.{ticks_lawful};
 
 use crate::delay::Delay;
 use crate::number::{Number, REACH, SMALL_PART};
@@ -37,7 +38,7 @@ impl Delay for Ticks {
 
     ghost lawful = { ticks_lawful };
 
-    ghost room = { ticks_room };
+    ghost room = { small_room };
 
     ghost within = { λ x. x.t.within };
 
