@@ -3,7 +3,7 @@ use Rattle.std.proofs.Common.{◌≡◌, ℕ, ◌+◌, ◌*◌, ◌<◌, ◌≤�
 use Rattle.std.specs.Slice.{IsItemAt}
 use Rattle.std.proofs.lemmas.Simd.{map-map}
 use Rattle.std.specs.List.{All}
-use Rattle.std.proofs.lemmas.List.Elements.{All-map, All-nil, All-cons, All-head, All-tail}
+use Rattle.std.proofs.lemmas.List.Elements.{All-map}
 use Rattle.std.proofs.lemmas.List.{get_or-map, get_or_past, length-map, drop_more}
 use Rattle.std.proofs.lemmas.Bool.{both_ways, cases_lt}
 use Rattle.delays.specs.Kind.{Kind, Exact, Lawful, Within}
@@ -14,6 +14,7 @@ use Rattle.network.specs.Walks.{sum_of, Walk, lefts, Apart}
 use Rattle.network.specs.Chains.{Chain}
 use Rattle.network.specs.Edges.{bound_of, bounds_of, LinkRead}
 use Rattle.network.specs.Checks.{sum_upto, PastReach, RowSummed, Cycle}
+use Rattle.network.proofs.Counting.{apart_head, apart_tail, apart_cons, apart_nil}
 use Rattle.network.specs.declared.link.Link.TheVariants.{Book}
 use Rattle.network.specs.declared.edge.Edge.{Edge}
 
@@ -29,10 +30,8 @@ read_map f xs i x d h is = ap f is ∙ sym (get_or-map f xs i x d h)
 pub drop_read : {X : Type 0} (xs : List X) (i : ℕ) (x : X) → i < length xs → x ≡ get_or xs i x → drop i xs ≡ x ∷ drop (i + 1) xs
 drop_read xs i x h is = drop_more xs i x h ∙ ap (λ y. y ∷ drop (i + 1) xs) (sym is)
 
-pub all_unmap : {X Y : Type 0} (P : Y → Type 0) (f : X → Y) (xs : List X) → All P (map f xs) → All (λ x. P (f x)) xs
-all_unmap P f [] h = All-nil (λ x. P (f x))
-all_unmap P f (x ∷ xs) h =
-    All-cons (λ x. P (f x)) x xs (All-head P (f x) (map f xs) h) (all_unmap P f xs (All-tail P (f x) (map f xs) h))
+all_unmap : {X Y : Type 0} (P : Y → Type 0) (f : X → Y) (xs : List X) → All P (map f xs) → All (λ x. P (f x)) xs
+all_unmap P f xs a k d h = subst P (get_or-map f xs k d (f d) h) (a k (f d) (rw (length-map xs f) h))
 
 module _ {X : Type 0} (k : Kind) (means : X → Exact k) where
   -- the left points of a row, and its sum, by its edges
@@ -68,16 +67,25 @@ module _ {X : Type 0} (k : Kind) (means : X → Exact k) where
     pub leads_more : (e.left ≡ at) × Walk e.right (bounds_of k means (drop (i + 1) row)) to → Walk at (bounds_of k means (drop i row)) to
     leads_more = subst (λ l. Walk at (bounds_of k means l) to) (sym (drop_read row i e h is))
 
+  -- the left points of a row are apart exactly when the first is none of the others, and those are apart
   module _ (row : List (Edge X)) (e : Edge X) (others : List (Edge X)) (is : row ≡ e ∷ others) where
-    -- the left points of a row are apart exactly when the first is none of the others, and those are apart
-    pub apart_first : Apart (map (λ x. x.left) row) → All (λ x. ¬ (e.left ≡ x.left)) others × Apart (map (λ x. x.left) others)
-    apart_first a =
-        let both = subst (λ (l : List (Edge X)). Apart (map (λ x. x.left) l)) is a in
-        (all_unmap (λ p. ¬ (e.left ≡ p)) (λ x. x.left) others both.0, both.1)
+    split_lefts : Apart (map (λ x. x.left) row) → Apart (e.left ∷ map (λ x. x.left) others)
+    split_lefts = subst (λ (l : List (Edge X)). Apart (map (λ x. x.left) l)) is
+
+    pub apart_first : Apart (map (λ x. x.left) row) → All (λ x. ¬ (e.left ≡ x.left)) others
+    apart_first a = all_unmap (λ p. ¬ (e.left ≡ p)) (λ x. x.left) others (apart_head e.left (map (λ x. x.left) others) (split_lefts a))
+
+    pub apart_others : Apart (map (λ x. x.left) row) → Apart (map (λ x. x.left) others)
+    apart_others a = apart_tail e.left (map (λ x. x.left) others) (split_lefts a)
 
     pub apart_more : All (λ x. ¬ (e.left ≡ x.left)) others → Apart (map (λ x. x.left) others) → Apart (map (λ x. x.left) row)
     apart_more none apart =
-        subst (λ (l : List (Edge X)). Apart (map (λ x. x.left) l)) (sym is) (All-map (λ p. ¬ (e.left ≡ p)) (λ x. x.left) others none, apart)
+        subst (λ (l : List (Edge X)). Apart (map (λ x. x.left) l)) (sym is)
+        (apart_cons e.left (map (λ x. x.left) others) (All-map (λ p. ¬ (e.left ≡ p)) (λ x. x.left) others none) apart)
+
+  pub apart_none : (row : List (Edge X)) → length row ≡ 0 → Apart (map (λ x. x.left) row)
+  apart_none [] e = apart_nil
+  apart_none (x ∷ xs) e = absurd (omega arith)
 
   -- a cycle whose sum is s is a chain exactly when s is below zero
   pub chain_decided : (row : List (Edge X)) (r : Bool) (s : Exact k) → Cycle k means row
@@ -89,7 +97,7 @@ module _ {X : Type 0} (k : Kind) (means : X → Exact k) where
 
   -- an empty row is a cycle
   pub cycle_empty : (row : List (Edge X)) → length row ≡ 0 → Cycle k means row
-  cycle_empty [] e = (0, refl, tt)
+  cycle_empty [] e = (0, refl, apart_nil)
   cycle_empty (x ∷ xs) e = absurd (omega arith)
 
   -- a closed row leads from its first left point back to it

@@ -6,18 +6,15 @@ use Rattle.std.proofs.lemmas.List.Elements.{All-nil, All-cons, All-head, All-tai
 use Rattle.delays.specs.Kind.{Kind, Exact, Lawful}
 use Rattle.network.specs.Bounds.{ExactBound, Bounds, floors, bounds_in_force}
 use Rattle.network.specs.Assignments.{Solution}
-use Rattle.network.specs.Walks.{sum_of, Walk, lefts, Apart}
+use Rattle.network.specs.Walks.{sum_of, Walk, lefts}
 use Rattle.network.specs.Chains.{ChainIn, ChainFrom, ChainTurns, ChainFromPosted}
+use Rattle.network.proofs.Counting.{apart_turn}
 use Rattle.network.proofs.Walking.{chain_refutes}
 use Rattle.network.proofs.Shortening.{sum_of-append}
 
 pub walk_push : {k : Kind} (xs : Bounds k) (x : ExactBound k) (p q : ℕ) → Walk p xs q → x.left ≡ q → Walk p (xs ++ x ∷ []) x.right
 walk_push [] x p q w e = (e ∙ sym w, refl)
 walk_push (b ∷ bs) x p q w e = (w.0, walk_push bs x b.right q w.1 e)
-
-apart_push : (xs : List ℕ) (x : ℕ) → All (λ y. ¬ (x ≡ y)) xs → Apart xs → Apart (xs ++ x ∷ [])
-apart_push [] x h a = (All-nil (λ y. ¬ (x ≡ y)), tt)
-apart_push (y ∷ ys) x h a = (All-push (λ z. ¬ (y ≡ z)) ys x a.0 (λ e. All-head (λ z. ¬ (x ≡ z)) y ys h (sym e)), apart_push ys x (All-tail (λ z. ¬ (x ≡ z)) y ys h) a.1)
 
 module _ {k : Kind} (laws : Lawful k) where
   -- the first bound goes to the end
@@ -26,7 +23,7 @@ module _ {k : Kind} (laws : Lawful k) where
     chain = record {
       start = x.right;
       closed = walk_push xs x x.right chain.start chain.closed.1 chain.closed.0;
-      apart = rw (map-append (λ b. b.left) xs (x ∷ [])) (apart_push (lefts xs) x.left chain.apart.0 chain.apart.1);
+      apart = rw (map-append (λ b. b.left) xs (x ∷ [])) (apart_turn x.left (lefts xs) chain.apart);
       below = rw (sum_of-append laws xs (x ∷ []), laws.zero_adds_nothing x.delay, laws.comm (sum_of k xs) x.delay) chain.below;
     };
     held = All-push (Contains edges) xs x (All-tail (Contains edges) x xs c.held) (All-head (Contains edges) x xs c.held);
