@@ -4,7 +4,7 @@ use Rattle.std.specs.Slice.{IsItemAt}
 use Rattle.std.proofs.lemmas.Simd.{map-map}
 use Rattle.std.specs.List.{All}
 use Rattle.std.proofs.lemmas.List.Elements.{All-map}
-use Rattle.std.proofs.lemmas.List.{get_or-map, get_or_past, length-map, drop_more}
+use Rattle.std.proofs.lemmas.List.{get_or-map, get_or_past, length-map, drop_more, drop_all}
 use Rattle.std.proofs.lemmas.Bool.{both_ways, cases_lt}
 use Rattle.delays.specs.Kind.{Kind, Exact, Lawful, Within}
 use Rattle.delays.specs.Totals.{total, Summed}
@@ -59,13 +59,28 @@ module _ {X : Type 0} (k : Kind) (means : X → Exact k) where
   copied_named book posted i None at = λ b named. let low : i < length (bounds_of k means book) = named.0 in omega (arith, at, length-map book (bound_of k means))
   copied_named book posted i (Some e) at = numbered_bound book i e.now (at.3.0, at.1)
 
+  -- What is left leads on from `at` exactly when its first edge leaves `at`, and the others lead on from there.
   module _ (row : List (Edge X)) (to : ℕ) (at i : ℕ) (e : Edge X) (h : i < length row) (is : e ≡ get_or row i e) where
-    -- what is left leads on from `at` exactly when its first edge leaves `at`, and the others lead on from there
-    pub leads_first : Walk at (bounds_of k means (drop i row)) to → (e.left ≡ at) × Walk e.right (bounds_of k means (drop (i + 1) row)) to
-    leads_first = subst (λ l. Walk at (bounds_of k means l) to) (drop_read row i e h is)
+    split_walk : Walk at (bounds_of k means (drop i row)) to → (e.left ≡ at) × Walk e.right (bounds_of k means (drop (i + 1) row)) to
+    split_walk = subst (λ l. Walk at (bounds_of k means l) to) (drop_read row i e h is)
 
-    pub leads_more : (e.left ≡ at) × Walk e.right (bounds_of k means (drop (i + 1) row)) to → Walk at (bounds_of k means (drop i row)) to
-    leads_more = subst (λ l. Walk at (bounds_of k means l) to) (sym (drop_read row i e h is))
+    pub leads_first : Walk at (bounds_of k means (drop i row)) to → e.left ≡ at
+    leads_first w = (split_walk w).0
+
+    pub leads_others : Walk at (bounds_of k means (drop i row)) to → Walk e.right (bounds_of k means (drop (i + 1) row)) to
+    leads_others w = (split_walk w).1
+
+    pub leads_more : e.left ≡ at → Walk e.right (bounds_of k means (drop (i + 1) row)) to → Walk at (bounds_of k means (drop i row)) to
+    leads_more first others = subst (λ l. Walk at (bounds_of k means l) to) (sym (drop_read row i e h is)) (first, others)
+
+  -- at the end of the row nothing is left
+  pub leads_end : (row : List (Edge X)) (to at i : ℕ) → length row ≤ i → Walk at (bounds_of k means (drop i row)) to → at ≡ to
+  leads_end row to at i h = subst (λ l. Walk at (bounds_of k means l) to) (drop_all i row h)
+
+  pub ends_there : (row : List (Edge X)) (to at i : ℕ) → length row ≤ i → at ≡ to → Walk at (bounds_of k means (drop i row)) to
+  ends_there row to at i h = subst (λ l. Walk at (bounds_of k means l) to) (sym (drop_all i row h))
+
+  pub ruleset walk_steps = (leads_first, leads_others, leads_more, leads_end, ends_there)
 
   -- the left points of a row are apart exactly when the first is none of the others, and those are apart
   module _ (row : List (Edge X)) (e : Edge X) (others : List (Edge X)) (is : row ≡ e ∷ others) where
@@ -86,6 +101,8 @@ module _ {X : Type 0} (k : Kind) (means : X → Exact k) where
   pub apart_none : (row : List (Edge X)) → length row ≡ 0 → Apart (map (λ x. x.left) row)
   apart_none [] e = apart_nil
   apart_none (x ∷ xs) e = absurd (omega arith)
+
+  pub ruleset apart_steps = (apart_first, apart_others, apart_more, apart_none)
 
   -- a cycle whose sum is s is a chain exactly when s is below zero
   pub chain_decided : (row : List (Edge X)) (r : Bool) (s : Exact k) → Cycle k means row
