@@ -1,12 +1,11 @@
 -- Reads of lists, and what the checks of times and of chains keep from turn to turn. Assumes nothing.
-use Rattle.std.proofs.Common.{◌≡◌, ℕ, ◌+◌, ◌*◌, ◌<◌, ◌≤◌, Bool, false, List, [], ◌∷◌, map, length, get_or, take, drop, Some, None, Decides, Option, sym, refl, ap, ◌∙◌, subst, ⊎_elim, arith, Bor, option_copied}
+use Rattle.std.proofs.Common.{◌≡◌, ℕ, ◌+◌, ◌<◌, ◌≤◌, Bool, List, [], ◌∷◌, map, length, get_or, take, drop, Some, None, Decides, Option, sym, refl, ap, ◌∙◌, subst, arith, Bor, option_copied}
 use Rattle.std.specs.Slice.{IsItemAt}
 use Rattle.std.proofs.lemmas.Simd.{map-map}
 use Rattle.std.specs.List.{All}
 use Rattle.std.proofs.lemmas.List.Elements.{All-map}
-use Rattle.std.proofs.lemmas.List.{get_or-map, get_or_past, length-map, drop_more, drop_all}
-use Rattle.std.proofs.lemmas.Bool.{both_ways, cases_lt}
-use Rattle.delays.specs.Kind.{Kind, Exact, Lawful, Within}
+use Rattle.std.proofs.lemmas.List.{get_or-map, length-map, drop_more, drop_all}
+use Rattle.delays.specs.Kind.{Kind, Exact, Within}
 use Rattle.delays.specs.Totals.{total, Summed}
 use Rattle.network.specs.Bounds.{Numbered}
 use Rattle.network.specs.Assignments.{Lt}
@@ -17,14 +16,6 @@ use Rattle.network.specs.Checks.{sum_upto, PastReach, RowSummed, Cycle}
 use Rattle.network.proofs.Counting.{apart_head, apart_tail, apart_cons, apart_nil}
 use Rattle.network.specs.declared.link.Link.TheVariants.{Book}
 use Rattle.network.specs.declared.edge.Edge.{Edge}
-
--- no is the answer where it does not hold
-pub answers_no : {P : Type 0} → (P → ⊥) → Decides false P
-answers_no never = (λ e. absurd (both_ways false refl e), λ p. absurd (never p))
-
--- an element of a mapped list, at any default
-pub read_map : {X Y : Type 0} (f : X → Y) (xs : List X) (i : ℕ) (x : X) (d : Y) → i < length xs → x ≡ get_or xs i x → f x ≡ get_or (map f xs) i d
-read_map f xs i x d h is = ap f is ∙ sym (get_or-map f xs i x d h)
 
 -- what is left from a place on begins with the element there
 pub drop_read : {X : Type 0} (xs : List X) (i : ℕ) (x : X) → i < length xs → x ≡ get_or xs i x → drop i xs ≡ x ∷ drop (i + 1) xs
@@ -50,7 +41,7 @@ module _ {X : Type 0} (k : Kind) (means : X → Exact k) where
   pub numbered_bound : (row : List (Edge X)) (i : ℕ) (e : Edge X) → Numbered row i e → Numbered (bounds_of k means row) i (bound_of k means e)
   numbered_bound row i e at = (
     let low : i < length row = at.0 in omega (arith, length-map row (bound_of k means)),
-    read_map (bound_of k means) row i e (bound_of k means e) at.0 at.1,
+    ap (bound_of k means) at.1 ∙ sym (get_or-map (bound_of k means) row i e (bound_of k means e) at.0),
   )
 
   -- what `get` lends at a number, copied, is the edge that the link with that number names

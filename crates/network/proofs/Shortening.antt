@@ -9,7 +9,7 @@ use Rattle.network.specs.Bounds.{ExactBound, Bounds}
 use Rattle.network.specs.Assignments.{Le, Solution}
 use Rattle.network.specs.Walks.{sum_of, Walk, stops, Apart, Shorter, WalkShortens}
 use Rattle.network.specs.Earliest.{Reached, EarliestReached, EarliestLeast, EarliestOne}
-use Rattle.network.proofs.Orders.{zero_left, sum_orders, no_less, opposites_reverse}
+use Rattle.network.proofs.Orders.{sum_orders, no_less, opposites_reverse}
 use Rattle.network.proofs.Counting.{apart_tail, apart_cons, apart_nil}
 use Rattle.network.proofs.Walking.{walk_bounds_below, closed_at_least}
 
@@ -61,7 +61,7 @@ seek {k} p r q (b ∷ bs) w = go (cases_eq p r) (seek p b.right q bs w.1)
 
 module _ {k : Kind} (laws : Lawful k) where
   pub sum_of-append : (xs ys : Bounds k) → sum_of k (xs ++ ys) ≡ k.sum (sum_of k xs) (sum_of k ys)
-  sum_of-append [] ys = sym (zero_left laws (sum_of k ys))
+  sum_of-append [] ys = sym (laws.comm k.zero (sum_of k ys) ∙ laws.zero_adds_nothing (sum_of k ys))
   sum_of-append (x ∷ xs) ys = ap (k.sum x.delay) (sum_of-append xs ys) ∙ sym (laws.assoc x.delay (sum_of k xs) (sum_of k ys))
 
   module _ (edges : Bounds k) (t : ℕ → Exact k) (s : Solution k edges t) where

@@ -1,5 +1,4 @@
-use Rattle.std.proofs.Common.{rules, Decides}
-use Rattle.network.specs.Assignments.{Lt}
+use Rattle.std.proofs.Common.{rules}
 use Rattle.network.proofs.Checking.{chain_decided, not_past}
 use Rattle.network.proofs.Repeating.{rounds_repeat}
 use Rattle.network.proofs.Theorems.{chain_theory}
