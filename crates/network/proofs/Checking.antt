@@ -47,7 +47,8 @@ module _ {X : Type 0} (k : Kind) (means : X → Exact k) where
   -- what `get` lends at a number, copied, is the edge that the link with that number names
   pub copied_named : (book : List (Edge X)) (posted : Edge X) (i : ℕ) (r : Option (Bor (Edge X))) → IsItemAt book i r
       → LinkRead k means book posted (Book i) (option_copied r)
-  copied_named book posted i None at = λ b named. let low : i < length (bounds_of k means book) = named.0 in omega (arith, at, length-map book (bound_of k means))
+  copied_named book posted i None at = λ b named.
+      let low : i < length (bounds_of k means book) = named.0 in omega (arith, at, length-map book (bound_of k means))
   copied_named book posted i (Some e) at = numbered_bound book i e.now (at.3.0, at.1)
 
   -- What is left leads on from `at` exactly when its first edge leaves `at`, and the others lead on from there.

@@ -2,6 +2,7 @@
 use Rattle.std.proofs.Common.{◌≡◌, ◌≢◌, ℕ, zero, suc, ◌+◌, ◌<◌, ◌≤◌, ◌⊎◌, List, [], ◌∷◌, ◌++◌, map, length, get_or, eqb, eqb-true, refl, sym, ap, ◌∙◌, inl, inr, arith}
 use Rattle.std.specs.List.{All, range_with_len}
 use Rattle.std.proofs.lemmas.Bool.Decides.{Decides-eqb}
+use Rattle.std.proofs.lemmas.List.Elements.{All-nil}
 use Rattle.std.proofs.lemmas.List.Folds.{Any-from_list_any}
 use Rattle.std.proofs.lemmas.List.FromFn.{length-map-range_with_len, get_or-map-range_with_len}
 use Rattle.std.proofs.lemmas.List.Kept.{AllPairs-cons}
@@ -32,6 +33,9 @@ apart_nil i j d l h = absurd (omega arith)
 pub apart_turn : (x : ℕ) (xs : List ℕ) → Apart (x ∷ xs) → Apart (xs ++ x ∷ [])
 unfolding Apart
 apart_turn x xs a = all_pairs_push ◌≢◌ xs x (apart_tail x xs a) (λ i d h e. apart_head x xs a i d h (sym e))
+
+pub apart_one : (x : ℕ) → Apart (x ∷ [])
+apart_one x = apart_cons x [] (All-nil (λ y. ¬ (x ≡ y))) apart_nil
 
 pub apart_length : (n : ℕ) (xs : List ℕ) → Apart xs → All (λ x. x < n) xs → length xs ≤ n
 unfolding Apart

@@ -15,7 +15,7 @@ use Rattle.network.specs.Assignments.{Meets, Solution, limit}
 use Rattle.network.specs.Walks.{Apart}
 use Rattle.network.specs.Earliest.{Reached}
 use Rattle.network.specs.Worked.{five_five, five, five_six, before_itself, steps, before_next, Worked}
-use Rattle.network.proofs.Counting.{apart_cons, apart_nil}
+use Rattle.network.proofs.Counting.{apart_cons, apart_one}
 use Rattle.network.proofs.Orders.{not_both}
 use Rattle.network.proofs.Shortening.{earliest_reached}
 use Rattle.network.proofs.Walking.{chain_refutes}
@@ -23,6 +23,10 @@ use Rattle.network.proofs.Walking.{chain_refutes}
 -- bounds that pass the test one by one are met
 met : (k : Kind) (edges : Bounds k) (t : ℕ → Exact k) → list_all (λ b. k.leq (t b.left) (limit k t b)) edges ≡ true → All (Meets k t) edges
 met k edges t = AllPass-from_list_all (λ b. k.leq (t b.left) (limit k t b)) edges
+
+-- the bounds in force hold those of the book
+held : (k : Kind) (n : ℕ) (book : Bounds k) → All (Contains (bounds_in_force k n book)) book
+held k n book = All-weaker (Contains book) (Contains (bounds_in_force k n book)) (Contains-append_left book (floors k n)) book (All-contains_itself book)
 
 five_meets : Solution ticks_kind (bounds_in_force ticks_kind 2 five_five) five
 five_meets = record { zero_first = refl; meets = met ticks_kind (bounds_in_force ticks_kind 2 five_five) five refl }
@@ -32,7 +36,9 @@ abbrev second : Bounds ticks_kind
 second = get_or five_five 1 before_itself ∷ []
 
 five_reached : Reached ticks_kind (bounds_in_force ticks_kind 2 five_five) 1 (tick (pos 5))
-five_reached = record { row = second; walk = (refl, refl); held = All-cons (Contains (bounds_in_force ticks_kind 2 five_five)) _ [] (1, omega arith, refl) (All-nil (Contains (bounds_in_force ticks_kind 2 five_five))); value = refl }
+five_reached =
+    let Held = Contains (bounds_in_force ticks_kind 2 five_five) in
+    record { row = second; walk = (refl, refl); held = All-cons Held _ [] (1, omega arith, refl) (All-nil Held); value = refl }
 
 abbrev stepped : ℕ → Exact ranked_kind
 stepped p = get_or (rank (pos 0) (pos 0) ∷ (rank (pos 0) (pos 1) ∷ (rank (pos 0) (pos 2) ∷ []))) p (rank (pos 0) (pos 0))
@@ -44,10 +50,10 @@ steps_meet : Solution ranked_kind (bounds_in_force ranked_kind 3 steps) stepped
 steps_meet = record { zero_first = refl; meets = met ranked_kind (bounds_in_force ranked_kind 3 steps) stepped refl }
 
 stepped_reached : Reached ranked_kind (bounds_in_force ranked_kind 3 steps) 2 (rank (pos 0) (pos 2))
-stepped_reached = record { row = steps; walk = (refl, (refl, refl)); held = All-weaker (Contains steps) (Contains (bounds_in_force ranked_kind 3 steps)) (Contains-append_left steps (floors ranked_kind 3)) steps (All-contains_itself steps); value = refl }
+stepped_reached = record { row = steps; walk = (refl, (refl, refl)); held = held ranked_kind 3 steps; value = refl }
 
 one_zero : Apart (1 ∷ (0 ∷ []))
-one_zero = apart_cons 1 (0 ∷ []) (All-cons (λ y. ¬ (1 ≡ y)) 0 [] (λ e. omega arith) (All-nil (λ y. ¬ (1 ≡ y)))) (apart_cons 0 [] (All-nil (λ y. ¬ (0 ≡ y))) apart_nil)
+one_zero = apart_cons 1 (0 ∷ []) (All-cons (λ y. ¬ (1 ≡ y)) 0 [] (λ e. omega arith) (All-nil (λ y. ¬ (1 ≡ y)))) (apart_one 0)
 
 pub worked : Worked
 worked = record {
@@ -56,7 +62,7 @@ worked = record {
   assignment = five_meets;
   chain = record {
     chain = record { start = 1; closed = (refl, (refl, refl)); apart = one_zero; below = refl };
-    held = All-weaker (Contains five_six) (Contains (bounds_in_force ticks_kind 2 five_six)) (Contains-append_left five_six (floors ticks_kind 2)) five_six (All-contains_itself five_six);
+    held = held ticks_kind 2 five_six;
   };
   rounds = record {
     inside = λ i h. omega arith;

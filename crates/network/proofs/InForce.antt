@@ -22,11 +22,13 @@ force_book k n book i b at =
     (omega (arith, force_length k n book), at.1 ∙ sym (get_or_append_left book (floors k n) b i low))
 
 -- the numbers after them are those of the floors
-pub force_floor : (k : Kind) (n : ℕ) (book : Bounds k) (i : ℕ) → length book ≤ i → i - length book < n → Numbered (bounds_in_force k n book) i (floor_of k (i - length book))
+pub force_floor : (k : Kind) (n : ℕ) (book : Bounds k) (i : ℕ) → length book ≤ i → i - length book < n
+    → Numbered (bounds_in_force k n book) i (floor_of k (i - length book))
 force_floor k n book i past h =
     let p = i - length book in (
       omega (arith, force_length k n book),
-      sym (get_or-append_right book (floors k n) (length book) i (floor_of k p) refl past ∙ get_or-map-range_with_len (floor_of k) 0 n p p (floor_of k p) h (omega arith)),
+      sym (get_or-append_right book (floors k n) (length book) i (floor_of k p) refl past
+          ∙ get_or-map-range_with_len (floor_of k) 0 n p p (floor_of k p) h (omega arith)),
     )
 
 module _ {X : Type 0} (k : Kind) (means : X → Exact k) (book : List (Edge X)) (points number : ℕ) (e : Edge X) (low : number < length book) where
@@ -40,7 +42,8 @@ module _ {X : Type 0} (k : Kind) (means : X → Exact k) (book : List (Edge X)) 
 pub floor_read : {X : Type 0} (k : Kind) (means : X → Exact k) (book : List (Edge X)) (points number : ℕ) (r : Option (Edge X)) → length book ≤ number
     → is_some r ≡ ltb (number - length book) points → IfSome r (λ e. bound_of k means e ≡ floor_of k (number - length book))
     → InForceRead k means book points number r
-floor_read k means book points number None past none is = omega (arith, ltb-false _ _ (sym none), force_length k points (bounds_of k means book), length-map book (bound_of k means))
+floor_read k means book points number None past none is =
+    omega (arith, ltb-false _ _ (sym none), force_length k points (bounds_of k means book), length-map book (bound_of k means))
 floor_read k means book points number (Some e) past some is =
     let bounds = bounds_of k means book in
     let long : length bounds ≡ length book = length-map book (bound_of k means) in
@@ -55,7 +58,8 @@ pub floor_held : (k : Kind) (n : ℕ) (book : Bounds k) (p : ℕ) → p < n → 
 floor_held k n book p h =
     let long : p < length (floors k n) = rw (length-map-range_with_len (floor_of k) 0 n) h in
     Contains-append_right book (floors k n) (floor_of k p)
-    (subst (Contains (floors k n)) (get_or-map-range_with_len (floor_of k) 0 n p p (floor_of k p) h (omega arith)) (Contains-get_or (floors k n) p (floor_of k p) long))
+    (subst (Contains (floors k n)) (get_or-map-range_with_len (floor_of k) 0 n p p (floor_of k p) h (omega arith))
+    (Contains-get_or (floors k n) p (floor_of k p) long))
 
 -- where the points of the book are below n, so are those of the bounds in force
 pub force_inside : (k : Kind) (n : ℕ) (book : Bounds k) → 0 < n → All (Inside k n) book → All (Inside k n) (bounds_in_force k n book)

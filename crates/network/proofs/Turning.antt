@@ -59,7 +59,8 @@ module _ {k : Kind} (laws : Lawful k) where
         go (inr p) = record { front = p.0; back = p.1; split = p.2; turned = chain_turns new p.0 (b ∷ p.1) (rw p.2 at c) }
 
   -- a bound in force after b was posted was in force before, or is b
-  pub posted_either : (n : ℕ) (book : Bounds k) (b x : ExactBound k) → Contains (bounds_in_force k n (book ++ b ∷ [])) x → Contains (bounds_in_force k n book) x ⊎ (b ≡ x)
+  pub posted_either : (n : ℕ) (book : Bounds k) (b x : ExactBound k) → Contains (bounds_in_force k n (book ++ b ∷ [])) x
+      → Contains (bounds_in_force k n book) x ⊎ (b ≡ x)
   posted_either n book b x has =
       ⊎_elim (λ h. ⊎_elim (λ old. inl (Contains-append_left book (floors k n) x old)) (λ new. inr new) (Contains-push_cases book b x h))
       (λ h. inl (Contains-append_right book (floors k n) x h)) (Contains-append_cases (book ++ b ∷ []) (floors k n) x has)

@@ -53,7 +53,9 @@ const UNIT: u32 = 0x4000_0000;
 
 // The top bits of each sort of link.
 const BOOK: u32 = UNIT;
+
 const FLOOR: u32 = 2 * UNIT;
+
 const POSTED: u32 = 3 * UNIT;
 
 // The word with these top bits, and the number below them where it has room there.
@@ -62,7 +64,11 @@ fn tagged(top: u32, low: u32) -> Result<u32, NoWord>
     ensures value { IfOk result (λ w. w ≡ top + low) }
     ensures room { IsOk result ↔ (low < 2 ^ 30) }
 {
-    if low < UNIT { Ok(top + low) } else { Err(NoWord) }
+    if low < UNIT {
+        Ok(top + low)
+    } else {
+        Err(NoWord)
+    }
 }
 
 // The word of a link. A link has one word, and a word one link.
