@@ -25,19 +25,19 @@ module _ {k : Kind} (laws : Lawful k) where
       within = λ n h. let none : 0 ≡ n = omega arith in subst (λ m. Within k (total_upto k each row m)) none (omega (arith, laws.size_zero));
     }
 
-    -- the sum so far and what the next one means are the sum of one more
-    pub sum_next : {i : ℕ} {x : Y} {d : Exact k} → i < length row → x ≡ get_or row i x → SummedUpto k each row i d
-        → k.sum d (each x) ≡ total_upto k each row (i + 1)
-    sum_next {i} {x} more read so_far =
+    -- the sum so far and the delay of the next one are the sum of one more
+    pub sum_next : {i : ℕ} {x : Y} {d y : Exact k} → SummedUpto k each row i d → i < length row → x ≡ get_or row i x → y ≡ each x
+        → k.sum d y ≡ total_upto k each row (i + 1)
+    sum_next {i} {x} {d} so_far more read has =
         let pushed : take (i + 1) row ≡ take i row ++ (x ∷ []) = take_more row i x more ∙ ap (λ y. take i row ++ (y ∷ [])) (sym read) in
         let all : total_upto k each row (i + 1) ≡ k.sum (total_upto k each row i) (each x) =
         ap (λ ys. total k (map each ys)) pushed ∙ (ap (total k) (map_push each (take i row) x) ∙ total_push (map each (take i row)) (each x)) in
-        ap (λ y. k.sum y (each x)) so_far.sum ∙ sym all
+        ap (k.sum d) has ∙ (ap (λ y. k.sum y (each x)) so_far.sum ∙ sym all)
 
-    pub sum_goes_on : {i : ℕ} {x : Y} {d next : Exact k} → i < length row → x ≡ get_or row i x → SummedUpto k each row i d
-        → next ≡ k.sum d (each x) → Within k next → SummedUpto k each row (i + 1) next
-    sum_goes_on {i} {x} {d} {next} more read so_far e within =
-        let is_next : next ≡ total_upto k each row (i + 1) = e ∙ sum_next more read so_far in
+    pub sum_goes_on : {i : ℕ} {x : Y} {d y next : Exact k} → SummedUpto k each row i d → i < length row → x ≡ get_or row i x
+        → next ≡ k.sum d y → y ≡ each x → Within k next → SummedUpto k each row (i + 1) next
+    sum_goes_on {i} {next = next} so_far more read added has within =
+        let is_next : next ≡ total_upto k each row (i + 1) = added ∙ sum_next so_far more read has in
         record {
           sum = is_next;
           within = λ n h. elim (cases_lt i n) [

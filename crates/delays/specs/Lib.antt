@@ -1,6 +1,9 @@
 pub mod Sizes
+pub mod SizesLaws
 pub mod Kind
 pub mod Theory
+pub mod OneNumber
+pub mod OneNumberLaws
 pub mod Ticks
 pub mod TicksLaws
 pub mod Ranked

@@ -1,10 +1,11 @@
 -- Ranked delays keep the laws of a kind: a row is its two numbers, and the order goes by the first of them that differ. Assumes nothing.
-use Rattle.std.specs.Prelude.{◌≡◌, ℕ, ◌*◌, ◌≤◌, max, true, T, ◌⊎◌, List, [], ◌∷◌, ℤ, pos, ◌+ℤ◌, slice_index_or, refl, ◌&&◌, Some, Decides}
+use Rattle.std.specs.Prelude.{◌≡◌, true, T, ◌⊎◌, List, [], ◌∷◌, ℤ, pos, slice_index_or, refl, ◌&&◌, Some, Decides}
 use Rattle.std.specs.Ordering.{int_cmp, int_eq, is_le, is_some_and, partial_ordering_then}
-use Rattle.std.specs.Cmp.{signed_Decides, first_so, second_so}
-use Rattle.std.proofs.Common.{sym, ap, ◌∙◌, inl, inr, arith}
+use Rattle.std.specs.Cmp.{signed_Decides}
+use Rattle.std.proofs.Common.{sym, ap, ◌∙◌, inl, inr, ⊎_elim, arith}
 use Rattle.std.proofs.Math.IntN.{+ℤ_assoc, +ℤ_comm, +ℤ_idr, +ℤ_invr}
-use Rattle.std.proofs.lemmas.Int.{ints, by_lt_z}
+use Rattle.std.proofs.lemmas.Bool.{cases_Bool, and_parts, and_from}
+use Rattle.std.proofs.lemmas.Int.{ints}
 use Rattle.delays.specs.Kind.{Row, Lawful}
 use Rattle.delays.specs.Ranked.{two_numbers, rank, first, second, before, ranked_kind}
 
@@ -26,22 +27,9 @@ rank_of x = row_is x.places x.had
 same_rank : (x y : Row two_numbers) → first x ≡ first y → second x ≡ second y → x ≡ y
 same_rank x y e f = sym (rank_of x) ∙ rank_same e f ∙ rank_of y
 
-before_itself : (t s : ℤ) → before t s t s ≡ true
-before_itself t s = grind (arith, ints)
-
-before_after : (t s u v w x : ℤ) → before t s u v ≡ true → before u v w x ≡ true → before t s w x ≡ true
-before_after t s u v w x p q = grind (arith, ints)
-
-before_both : (t s u v : ℤ) → before t s u v ≡ true → before u v t s ≡ true → (t ≡ u) × (s ≡ v)
-before_both t s u v p q = (grind (arith, ints), grind (arith, ints))
-
+-- of two pairs of numbers one is before the other, or they are the same
 before_either : (t s u v : ℤ) → (before t s u v ≡ true) ⊎ (before u v t s ≡ true)
-before_either t s u v =
-    by_lt_z t u (λ h. inl (grind (arith, ints)))
-    (λ h. by_lt_z u t (λ k. inr (grind (arith, ints))) (λ k. by_lt_z s v (λ i. inl (grind (arith, ints))) (λ i. inr (grind (arith, ints)))))
-
-before_shifted : (t s u v a b : ℤ) → before t s u v ≡ true → before (t +ℤ a) (s +ℤ b) (u +ℤ a) (v +ℤ b) ≡ true
-before_shifted t s u v a b p = grind (arith, ints)
+before_either t s u v = ⊎_elim inl (λ e. inr (grind (arith, ints))) (cases_Bool (before t s u v))
 
 pub ranked_lawful : Lawful ranked_kind
 ranked_lawful = record {
@@ -49,13 +37,11 @@ ranked_lawful = record {
   comm = λ x y. rank_same (+ℤ_comm (first x) (first y)) (+ℤ_comm (second x) (second y));
   zero_adds_nothing = λ x. rank_same (+ℤ_idr (first x)) (+ℤ_idr (second x)) ∙ rank_of x;
   cancels = λ x. rank_same (+ℤ_invr (first x)) (+ℤ_invr (second x));
-  reflexive = λ x. before_itself (first x) (second x);
-  transitive = λ x y z p q. before_after (first x) (second x) (first y) (second y) (first z) (second z) p q;
-  antisymmetric = λ x y p q.
-      let e = before_both (first x) (second x) (first y) (second y) p q in
-      same_rank x y e.0 e.1;
+  reflexive = λ x. grind (arith, ints);
+  transitive = λ x y z p q. grind (arith, ints);
+  antisymmetric = λ x y p q. same_rank x y (grind (arith, ints)) (grind (arith, ints));
   compares = λ x y. before_either (first x) (second x) (first y) (second y);
-  shifts = λ x y z p. before_shifted (first x) (second x) (first y) (second y) (first z) (second z) p;
+  shifts = λ x y z p. grind (arith, ints);
   size_zero = refl;
   size_opposite = λ x. omega (arith, ints);
   size_sum = λ x y. omega (arith, ints);
@@ -64,20 +50,12 @@ ranked_lawful = record {
   small_parts = λ x h p q. omega arith;
 }
 
--- the larger of two sizes is within what both are within
-pub max_within : {m n k : ℕ} → m ≤ k → n ≤ k → max m n ≤ k
-max_within h i = omega arith
-
--- the reach has room for 256 delays of the greatest size
-pub ranked_room : 256 * ranked_kind.greatest ≤ ranked_kind.reach
-ranked_room = omega arith
-
 -- the order by the first number, and then by the second, is that of the rows, and equal numbers have one row
 pub ranked_ordered : (t s u v : ℤ) → is_some_and is_le (partial_ordering_then (Some (int_cmp t u)) (Some (int_cmp s v))) ≡ ranked_kind.leq (rank t s) (rank u v)
 ranked_ordered t s u v = grind (arith, ints)
 
 pub ranked_equal : (t s u v : ℤ) → Decides (int_eq t u && int_eq s v) (rank t s ≡ rank u v)
 ranked_equal t s u v = (
-  λ e. rank_same ((signed_Decides t u).0 (first_so (int_eq t u) (int_eq s v) e)) ((signed_Decides s v).0 (second_so (int_eq t u) (int_eq s v) e)),
-  λ e. let p = (signed_Decides t u).1 (ap first e) in let q = (signed_Decides s v).1 (ap second e) in ap (λ b. b && int_eq s v) p ∙ q,
+  λ e. let both = and_parts (int_eq t u) (int_eq s v) e in rank_same ((signed_Decides t u).0 both.0) ((signed_Decides s v).0 both.1),
+  λ e. and_from (int_eq t u) (int_eq s v) ((signed_Decides t u).1 (ap first e)) ((signed_Decides s v).1 (ap second e)),
 )

@@ -39,6 +39,7 @@ pub trait Delay: Copy + Ord {
     fn read(t: i64, s: i64) -> Option<Self>
         ensures { MatchOption result (Unread kind t s) (λ v. Parts kind (means v) t s) };
 
+    // The constants are the kind's two numbers.
     ghost greatest: { GREATEST ≡ kind.greatest };
 
     ghost reach: { REACH ≡ kind.reach };

@@ -1,7 +1,9 @@
-ghost use Rattle.std.specs.Prelude.{◌≡◌};
+ghost use Rattle.std.specs.Prelude.{◌≡◌, Some};
 ghost use Rattle.delays.specs.Faults.{fault_of, reason_of};
 
 use faults::{Fault, Layer};
+use std::error::Error;
+use std::fmt;
 
 // Why a pair of parts is no delay.
 #[derive(Clone, Copy, PartialEq, Eq, Debug)]
@@ -10,12 +12,12 @@ pub enum KindFault {
     Unread,
 }
 
-impl KindFault {
-    // Fault 6 of layer K, which names no place.
-    pub fn fault(self) -> Fault
-        ensures { result ≡ fault_of self }
-    {
-        match self {
+// Fault 6 of layer K, which names no place.
+impl From<KindFault> for Fault {
+    ghost from_gives = { λ e fault. fault ≡ fault_of e };
+
+    fn from(e: KindFault) -> Fault {
+        match e {
             KindFault::Unread => Fault {
                 number: 6,
                 layer: Layer::Kinds,
@@ -23,13 +25,17 @@ impl KindFault {
             },
         }
     }
+}
 
-    // What is wrong, in words.
-    pub fn reason(self) -> &'static str
-        ensures { result.now ≡ reason_of self }
-    {
+// What is wrong, in words.
+impl fmt::Display for KindFault {
+    ghost output = { λ e. Some (reason_of e) };
+
+    fn fmt<W: fmt::Write>(&self, f: &mut fmt::Formatter<W>) -> fmt::Result {
         match self {
-            KindFault::Unread => "no delay of the kind has these parts",
+            KindFault::Unread => write!(f, "no delay of the kind has these parts"),
         }
     }
 }
+
+impl Error for KindFault {}

@@ -4,8 +4,10 @@ ghost use Rattle.delays.specs.Sizes.{number_reach};
 
 use std::ops::Neg;
 
+// The greatest size of a small part.
 pub(crate) const SMALL_PART: u64 = 500_000_000;
 
+// The greatest size of a number.
 pub(crate) const REACH: u64 = 1_099_511_627_776;
 
 // A whole number of a size within the reach.

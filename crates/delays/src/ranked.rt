@@ -1,8 +1,9 @@
 // Delays in milliseconds, and in steps inside one millisecond.
 ghost use Rattle.std.specs.Prelude.{refl};
 ghost use Rattle.delays.specs.Sizes.{small_part, number_reach};
+ghost use Rattle.delays.specs.SizesLaws.{small_room, max_within};
 ghost use Rattle.delays.specs.Ranked.{rank, ranked_kind};
-ghost use Rattle.delays.specs.RankedLaws.{ranked_lawful, ranked_room, ranked_ordered, ranked_equal, max_within};
+ghost use Rattle.delays.specs.RankedLaws.{ranked_lawful, ranked_ordered, ranked_equal};
 
 use crate::delay::Delay;
 use crate::number::{Number, REACH, SMALL_PART};
@@ -37,7 +38,7 @@ impl Delay for Ranked {
 
     ghost lawful = { ranked_lawful };
 
-    ghost room = { ranked_room };
+    ghost room = { small_room };
 
     ghost within = { λ x. max_within x.t.within x.s.within };
 

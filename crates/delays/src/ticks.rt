@@ -1,8 +1,10 @@
 // Delays in milliseconds.
 ghost use Rattle.std.specs.Prelude.{refl};
 ghost use Rattle.delays.specs.Sizes.{small_part, number_reach};
+ghost use Rattle.delays.specs.SizesLaws.{small_room};
+ghost use Rattle.delays.specs.OneNumberLaws.{number_ordered, number_equal};
 ghost use Rattle.delays.specs.Ticks.{tick, ticks_kind};
-ghost use Rattle.delays.specs.TicksLaws.{ticks_lawful, ticks_room, ticks_ordered, ticks_equal};
+ghost use Rattle.delays.specs.TicksLaws.{ticks_lawful};
 
 use crate::delay::Delay;
 use crate::number::{Number, REACH, SMALL_PART};
@@ -30,13 +32,13 @@ impl Delay for Ticks {
 
     ghost reach = { refl };
 
-    ghost ordered = { λ x y. ticks_ordered x.t.value y.t.value };
+    ghost ordered = { λ x y. number_ordered x.t.value y.t.value };
 
-    ghost equal = { λ x y. ticks_equal x.t.value y.t.value };
+    ghost equal = { λ x y. number_equal x.t.value y.t.value };
 
     ghost lawful = { ticks_lawful };
 
-    ghost room = { ticks_room };
+    ghost room = { small_room };
 
     ghost within = { λ x. x.t.within };
 

@@ -1,24 +1,20 @@
-use Rattle.std.proofs.Common.{◌+◌, ◌<◌, sym, ap, ◌∙◌, subst, arith}
+use Rattle.std.proofs.Common.{◌+◌, ◌<◌, sym, ap, subst, arith}
 use Rattle.delays.specs.Totals.{total_upto, Summed}
-use Rattle.delays.proofs.TotalLaws.{sum_begins, sum_next, sum_goes_on, sum_ends, small_within}
+use Rattle.delays.proofs.TotalLaws.{sum_next, sum_goes_on, small_within}
 use Rattle.delays.proofs.totals.total.Goals as goal
-
-pub loop-x-init : goal.loop-x-init
-loop-x-init g c = sum_begins g.met.D.Delay.lawful c.zero-sum.ensures
 
 pub loop-x-preserved : goal.loop-x-preserved
 loop-x-preserved g c =
-    let d = g.D.Delay in
-    let added = c.in_ok-sum.ensures ∙ ap (λ x. d.kind.sum (d.means c.loop-x.sum) (d.means x)) c.delay.ensures in
-    sum_goes_on g.met.D.Delay.lawful c.loop-x-test.true c.x-item.is c.loop-x.invariant added (g.met.D.Delay.within c.in_ok-sum.sum)
+    let has = ap g.D.Delay.means c.delay.ensures in
+    sum_goes_on g.met.D.Delay.lawful c.loop-x.invariant c.loop-x-test.true c.x-item.is c.in_ok-sum.ensures has (g.met.D.Delay.within c.in_ok-sum.sum)
 
 -- the sum that leaves the reach
 past : (g : _) (c : goal.After-from_residual g)
     → g.D.Delay.kind.reach < g.D.Delay.kind.size (total_upto g.D.Delay.kind (λ x. g.D.Delay.means (g.T.HasDelay.delay_of x)) c.args.xs.now (c.loop-x.x-index + 1))
 past g c =
     let d = g.D.Delay in
-    let next = ap (λ x. d.kind.sum (d.means c.loop-x.sum) (d.means x)) c.delay.ensures ∙ sum_next g.met.D.Delay.lawful c.loop-x-test.true c.x-item.is c.loop-x.invariant in
-    subst (λ z. d.kind.reach < d.kind.size z) next c.in_err-sum.ensures
+    let has = ap d.means c.delay.ensures in
+    subst (λ z. d.kind.reach < d.kind.size z) (sum_next g.met.D.Delay.lawful c.loop-x.invariant c.loop-x-test.true c.x-item.is has) c.in_err-sum.ensures
 
 pub returns-in_err-sum-clause-sums : goal.returns-in_err-sum-clause-sums
 returns-in_err-sum-clause-sums g c =
@@ -30,6 +26,3 @@ returns-in_err-sum-clause-small g c few small =
     let within = small_within g.met.D.Delay.lawful (λ x. g.D.Delay.means (g.T.HasDelay.delay_of x)) c.args.xs.now g.met.D.Delay.room few small (c.loop-x.x-index + 1) in
     let never : ⊥ = omega (arith, past g c, within) in
     absurd never
-
-pub returns-clause-sums : goal.returns-clause-sums
-returns-clause-sums g c = sum_ends g.met.D.Delay.lawful c.loop-x-test.false c.loop-x.auto.x-index-end c.loop-x.invariant
