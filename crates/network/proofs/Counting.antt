@@ -1,70 +1,61 @@
 -- Numbers below n of which no two are equal are at most n, so of more some number comes twice. Assumes nothing.
-use Rattle.std.proofs.Common.{◌≡◌, ℕ, zero, suc, ◌+◌, ◌<◌, ◌≤◌, ◌⊎◌, List, [], ◌∷◌, map, length, sym, ap, ◌∙◌, inl, inr, arith}
+use Rattle.std.proofs.Common.{◌≡◌, ◌≢◌, ℕ, zero, suc, ◌+◌, ◌<◌, ◌≤◌, ◌⊎◌, List, [], ◌∷◌, ◌++◌, map, length, get_or, eqb, eqb-true, refl, sym, ap, ◌∙◌, inl, inr, arith}
 use Rattle.std.specs.List.{All, range_with_len}
-use Rattle.std.proofs.lemmas.List.Elements.{All-nil, All-cons, All-head, All-tail}
-use Rattle.std.proofs.lemmas.List.FromFn.{length-map-range_with_len}
+use Rattle.std.proofs.lemmas.Bool.Decides.{Decides-eqb}
+use Rattle.std.proofs.lemmas.List.Elements.{All-nil}
+use Rattle.std.proofs.lemmas.List.Folds.{Any-from_list_any}
+use Rattle.std.proofs.lemmas.List.FromFn.{length-map-range_with_len, get_or-map-range_with_len}
+use Rattle.std.proofs.lemmas.List.Kept.{AllPairs-cons}
+use Rattle.std.proofs.lemmas.List.Quantifiers.{all_pairs_push}
+use Rattle.std.proofs.lemmas.Map.Made.{IsDistinct-from_AllPairs}
+use Rattle.std.proofs.lemmas.Map.Steps.{length-le_from_distinct_below}
 use Rattle.std.proofs.lemmas.Bool.{cases_eq}
 use Rattle.network.specs.Walks.{Apart}
 
--- what is left of xs without the number n
-record Without (n : ℕ) (xs : List ℕ) : Type 0 where
-  rest : List ℕ
-  apart : Apart rest
-  small : All (λ x. x < n) rest
-  long : length xs ≤ suc (length rest)
-  keeps : (z : ℕ) → All (λ y. ¬ (z ≡ y)) xs → All (λ y. ¬ (z ≡ y)) rest
+-- a list is apart exactly when its first number is none of the others, and those are apart
+pub apart_head : (x : ℕ) (xs : List ℕ) → Apart (x ∷ xs) → All (λ y. ¬ (x ≡ y)) xs
+unfolding Apart
+apart_head x xs a k d h = a 0 (suc k) d (omega arith) (omega arith)
 
-tighten : (n : ℕ) (xs : List ℕ) → All (λ y. ¬ (n ≡ y)) xs → All (λ y. y < suc n) xs → All (λ y. y < n) xs
-tighten n [] a h = All-nil (λ y. y < n)
-tighten n (x ∷ xs) a h =
-    let ne : ¬ (n ≡ x) = All-head (λ y. ¬ (n ≡ y)) x xs a in
-    let below : x < suc n = All-head (λ y. y < suc n) x xs h in
-    All-cons (λ y. y < n) x xs (omega arith) (tighten n xs (All-tail (λ y. ¬ (n ≡ y)) x xs a) (All-tail (λ y. y < suc n) x xs h))
+pub apart_tail : (x : ℕ) (xs : List ℕ) → Apart (x ∷ xs) → Apart xs
+unfolding Apart
+apart_tail x xs a i j d l h = a (suc i) (suc j) d (omega arith) (omega arith)
 
-without : (n : ℕ) (xs : List ℕ) → Apart xs → All (λ x. x < suc n) xs → Without n xs
-without n [] a h = record { rest = []; apart = tt; small = All-nil (λ x. x < n); long = omega arith; keeps = λ z l. l }
-without n (x ∷ xs) a h = go (cases_eq x n) (without n xs a.1 rest)
-  where
-    rest : All (λ y. y < suc n) xs
-    rest = All-tail (λ y. y < suc n) x xs h
+pub apart_cons : (x : ℕ) (xs : List ℕ) → All (λ y. ¬ (x ≡ y)) xs → Apart xs → Apart (x ∷ xs)
+unfolding Apart
+apart_cons = AllPairs-cons ◌≢◌
 
-    go : (x ≡ n) ⊎ (x ≡ n → ⊥) → Without n xs → Without n (x ∷ xs)
-    go (inl e) w = record {
-      rest = xs;
-      apart = a.1;
-      small = tighten n xs (rw e at a.0) rest;
-      long = omega arith;
-      keeps = λ z. All-tail (λ y. ¬ (z ≡ y)) x xs;
-    }
-    go (inr e) w = record {
-      rest = x ∷ w.rest;
-      apart = (w.keeps x a.0, w.apart);
-      small = let below : x < suc n = All-head (λ y. y < suc n) x xs h in All-cons (λ y. y < n) x w.rest (omega arith) w.small;
-      long = omega arith;
-      keeps = λ z l. All-cons (λ y. ¬ (z ≡ y)) x w.rest (All-head (λ y. ¬ (z ≡ y)) x xs l) (w.keeps z (All-tail (λ y. ¬ (z ≡ y)) x xs l));
-    }
+pub apart_nil : Apart []
+unfolding Apart
+apart_nil i j d l h = absurd (omega arith)
 
--- By induction on n: without the number n, if it is there, the others are below n, and are one fewer at most.
+-- the first number may go to the end
+pub apart_turn : (x : ℕ) (xs : List ℕ) → Apart (x ∷ xs) → Apart (xs ++ x ∷ [])
+unfolding Apart
+apart_turn x xs a = all_pairs_push ◌≢◌ xs x (apart_tail x xs a) (λ i d h e. apart_head x xs a i d h (sym e))
+
+pub apart_one : (x : ℕ) → Apart (x ∷ [])
+apart_one x = apart_cons x [] (All-nil (λ y. ¬ (x ≡ y))) apart_nil
+
 pub apart_length : (n : ℕ) (xs : List ℕ) → Apart xs → All (λ x. x < n) xs → length xs ≤ n
-apart_length zero [] a h = omega arith
-apart_length zero (x ∷ xs) a h = let no_less : x < 0 = All-head (λ y. y < 0) x xs h in omega arith
-apart_length (suc n) xs a h =
-    let w = without n xs a h in
-    let fewer : length w.rest ≤ n = apart_length n w.rest w.apart w.small in
-    omega (arith, w.long)
+unfolding Apart
+apart_length n xs a h =
+    length-le_from_distinct_below xs n (IsDistinct-from_AllPairs Decides-eqb xs a)
+    (λ q e. let f = Any-from_list_any (eqb q) xs e in let small : get_or xs f.0 f.1 < n = h f.0 f.1 f.2 in omega (arith, small, f.3, eqb-true q f.1 f.4))
 
 -- what holds of f at each number from i on, m of them
 pub all_counting : {A : Type 0} (P : A → Type 0) (f : ℕ → A) (i m : ℕ) → ((a : ℕ) → i ≤ a → a < i + m → P (f a)) → All P (map f (range_with_len i m))
-all_counting P f i zero h = All-nil P
-all_counting P f i (suc m) h =
-    All-cons P (f i) (map f (range_with_len (i + 1) m)) (h i (omega arith) (omega arith)) (all_counting P f (i + 1) m (λ a l u. h a (omega arith) (omega arith)))
+all_counting P f i m h k d u =
+    let low : k < m = omega (arith, length-map-range_with_len f i m) in
+    rw (get_or-map-range_with_len f i m k (i + k) d low refl) (h (i + k) (omega arith) (omega arith))
 
 pub apart_counting : (f : ℕ → ℕ) (i m : ℕ) → ((a b : ℕ) → i ≤ a → a < b → b < i + m → ¬ (f a ≡ f b)) → Apart (map f (range_with_len i m))
-apart_counting f i zero h = tt
-apart_counting f i (suc m) h = (
-  all_counting (λ y. ¬ (f i ≡ y)) f (i + 1) m (λ b l u. h i b (omega arith) (omega arith) (omega arith)),
-  apart_counting f (i + 1) m (λ a b l o u. h a b (omega arith) o (omega arith)),
-)
+unfolding Apart
+apart_counting f i m h a b d l u e =
+    let low : b < m = omega (arith, length-map-range_with_len f i m) in
+    let first = get_or-map-range_with_len f i m a (i + a) d (omega arith) refl in
+    let second = get_or-map-range_with_len f i m b (i + b) d low refl in
+    h (i + a) (i + b) (omega arith) (omega arith) (omega arith) (sym first ∙ (e ∙ second))
 
 -- the first repeat: the points before `to` are apart, and the point at `to` is that at `from`
 pub record FirstRepeat (point : ℕ → ℕ) (m : ℕ) : Type 0 where

@@ -19,7 +19,8 @@ use Rattle.network.proofs.Walking.{walk_bounds_below}
 
 module _ {k : Kind} (laws : Lawful k) where
   -- one bound more at the end of a walk from point 0
-  pub reached_over : (edges : Bounds k) (b : ExactBound k) (x : Exact k) → Contains edges b → Reached k edges b.left x → Reached k edges b.right (carry k x b.delay)
+  pub reached_over : (edges : Bounds k) (b : ExactBound k) (x : Exact k) → Contains edges b → Reached k edges b.left x
+      → Reached k edges b.right (carry k x b.delay)
   reached_over edges b x held r = record {
     row = r.row ++ b ∷ [];
     walk = walk_push r.row b 0 b.left r.walk refl;
@@ -64,7 +65,8 @@ module _ {k : Kind} (laws : Lawful k) where
         let l = label laws n edges inside n 0 in
         let above : Le k k.zero l = label_grows_by laws n edges inside 0 n n 0 (omega arith) in
         let under : Le k l k.zero =
-        subst (λ x. Le k x k.zero) (sym r.value) (subst (Le k (k.opposite (sum_of k r.row))) s.zero_first (walk_bounds_below laws edges _ s 0 r.row r.walk r.held)) in
+        subst (λ x. Le k x k.zero) (sym r.value)
+        (subst (Le k (k.opposite (sum_of k r.row))) s.zero_first (walk_bounds_below laws edges _ s 0 r.row r.walk r.held)) in
         laws.antisymmetric l k.zero under above
 
     settled_label : 0 < n → Solution k edges (settled laws n edges inside) → (p : ℕ) → label laws n edges inside n p ≡ settled laws n edges inside p

@@ -14,7 +14,8 @@ module _ {k : Kind} (laws : Lawful k) where
   pub path_short : PathShort k
   path_short n edges inside p q small row path =
       let rights : All (λ x. x < n) (map (λ b. b.right) row) =
-      All-map (λ x. x < n) (λ b. b.right) row (All-weaker (Contains edges) (λ b. b.right < n) (λ b h. (All-contains (Inside k n) edges b inside h).right) row path.held) in
+      All-map (λ x. x < n) (λ b. b.right) row
+      (All-weaker (Contains edges) (λ b. b.right < n) (λ b h. (All-contains (Inside k n) edges b inside h).right) row path.held) in
       let few : length (stops p row) ≤ n = apart_length n (stops p row) path.apart (All-cons (λ x. x < n) p (map (λ b. b.right) row) small rights) in
       omega (arith, few, length-map row (λ b. b.right))
 

@@ -10,9 +10,6 @@ pub not_both : (k : Kind) (x y : Exact k) → Le k x y → Lt k y x → ⊥
 not_both k x y at_most below = both_ways (k.leq x y) below at_most
 
 module _ {k : Kind} (laws : Lawful k) where
-  pub zero_left : (x : Exact k) → k.sum k.zero x ≡ x
-  zero_left x = laws.comm k.zero x ∙ laws.zero_adds_nothing x
-
   -- what is below is at most
   pub lt_le : (x y : Exact k) → Lt k x y → Le k x y
   lt_le x y h = ⊎_elim (λ e. e) (λ e. absurd (not_both k y x e h)) (laws.compares x y)
@@ -27,11 +24,11 @@ module _ {k : Kind} (laws : Lawful k) where
 
   -- x is at most x plus s: s is not below zero
   pub zero_at_most : (x s : Exact k) → Le k x (k.sum x s) → Le k k.zero s
-  zero_at_most x s h = (theory laws).unshift k.zero s x (rw (zero_left x, laws.comm s x) h)
+  zero_at_most x s h = (theory laws).unshift k.zero s x (rw (laws.comm k.zero x, laws.zero_adds_nothing x, laws.comm s x) h)
 
   -- what is not below zero, added, makes no less
   pub no_less : (f x : Exact k) → Le k k.zero f → Le k x (k.sum f x)
-  no_less f x h = rw (zero_left x) at (laws.shifts k.zero f x h)
+  no_less f x h = rw (laws.comm k.zero x, laws.zero_adds_nothing x) at (laws.shifts k.zero f x h)
 
   -- x plus s is below x: s is below zero
   pub below_zero : (x s : Exact k) → Lt k (k.sum x s) x → Lt k s k.zero
@@ -44,7 +41,7 @@ module _ {k : Kind} (laws : Lawful k) where
 
   -- zero is at most x plus s: the opposite of s is at most x
   pub opposite_at_most : (x s : Exact k) → Le k k.zero (k.sum x s) → Le k (k.opposite s) x
-  opposite_at_most x s h = rw (zero_left (k.opposite s)) at ((theory laws).move_right k.zero x s h)
+  opposite_at_most x s h = rw (laws.comm k.zero (k.opposite s), laws.zero_adds_nothing (k.opposite s)) at ((theory laws).move_right k.zero x s h)
 
   -- opposites change the sides of the order over
   pub opposites_reverse : (x y : Exact k) → Le k (k.opposite x) (k.opposite y) → Le k y x

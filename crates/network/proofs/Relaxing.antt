@@ -44,7 +44,8 @@ module _ {k : Kind} (laws : Lawful k) where
 
     best_more : (b : ExactBound k) (bs : Bounds k) (p : ℕ) → Le k (best bs p) (best (b ∷ bs) p)
     best_more b bs p =
-        ⊎_elim (λ e. rw (best_at b bs p e) (greater_right (brings b) (best bs p))) (λ ne. rw (best_off b bs p ne) (laws.reflexive (best bs p))) (cases_eq b.right p)
+        ⊎_elim (λ e. rw (best_at b bs p e) (greater_right (brings b) (best bs p)))
+        (λ ne. rw (best_off b bs p ne) (laws.reflexive (best bs p))) (cases_eq b.right p)
 
     -- a label never falls
     pub best_old : (bs : Bounds k) (p : ℕ) → Le k (old p) (best bs p)
@@ -78,7 +79,8 @@ module _ {k : Kind} (laws : Lawful k) where
         later e (inr c) = inr (record { over = c.over; held = Contains-append_right (b ∷ []) bs c.over c.held; reaches = c.reaches; value = e ∙ c.value })
 
         go : (b.right ≡ p) ⊎ (b.right ≡ p → ⊥)
-            → ((greater k (brings b) (best bs p) ≡ best bs p) × Le k (brings b) (best bs p)) ⊎ ((greater k (brings b) (best bs p) ≡ brings b) × Lt k (best bs p) (brings b))
+            → ((greater k (brings b) (best bs p) ≡ best bs p) × Le k (brings b) (best bs p))
+            ⊎ ((greater k (brings b) (best bs p) ≡ brings b) × Lt k (best bs p) (brings b))
             → (best bs p ≡ old p) ⊎ Came bs p → (best (b ∷ bs) p ≡ old p) ⊎ Came (b ∷ bs) p
         go (inr ne) g rest = later (best_off b bs p ne) rest
         go (inl e) (inl g) rest = later (best_at b bs p e ∙ g.0) rest

@@ -43,7 +43,8 @@ module _ {k : Kind} (laws : Lawful k) {edges : Bounds k} {n m : ℕ} {point : �
             start = point i;
             closed = rw (← f.same) at (walk_stretch i (j - i) j meet j≤m);
             apart = rw (map-map (λ b. b.left) via (range_with_len i (j - i)))
-                (apart_counting (λ a. (via a).left) i (j - i) (λ a b s t u e. f.apart a b t (omega arith) (sym (r.leaves a (omega arith)) ∙ e ∙ r.leaves b (omega arith))));
+                (apart_counting (λ a. (via a).left) i (j - i)
+                (λ a b s t u e. f.apart a b t (omega arith) (sym (r.leaves a (omega arith)) ∙ e ∙ r.leaves b (omega arith))));
             below = below_zero laws (label j) (sum_of k row) lower;
           };
           held = all_counting (Contains edges) via i (j - i) (λ a s u. r.held a (omega arith));

@@ -76,7 +76,8 @@ module _ {k : Kind} (laws : Lawful k) (n : ℕ) (edges : Bounds k) (inside : All
   -- what a bound carries after j rounds is at most the label of its right point after j + 1
   carried_at : (j : ℕ) (b : ExactBound k) → Contains edges b → Le k (carry k (label j b.left) b.delay) (label (suc j) b.right)
   unfolding label
-  carried_at j b held = All-contains (λ x. Le k (carry k (label j x.left) x.delay) (best laws (label j) edges x.right)) edges b (best_carried laws (label j) edges) held
+  carried_at j b held =
+      All-contains (λ x. Le k (carry k (label j x.left) x.delay) (best laws (label j) edges x.right)) edges b (best_carried laws (label j) edges) held
 
   -- The bound that raised p in round j + 2 carried no more than p's label already in round j + 1, unless its left point rose in that round.
   left_rises : (j p : ℕ) → Rises (suc j) p → (r : Raised (suc j) p) → Rises j r.over.left
@@ -139,7 +140,8 @@ module _ {k : Kind} (laws : Lawful k) (n : ℕ) (edges : Bounds k) (inside : All
     carry_same i {b = b} e f = ap (λ x. carry k (label i x) b.delay) (sym e) ∙ ap (λ b. carry k (label i (point' i)) b.delay) (sym f)
 
     carried' : (i : ℕ) → i < suc j → label (i + 1) (point' (i + 1)) ≡ carry k (label i (point' i)) (via' i).delay
-    carried' i h = ⊎_elim (λ l. ap (label (i + 1)) (point_old (i + 1) (omega arith)) ∙ (t.traced.carried i l ∙ carry_same i (point_old i (omega arith)) (via_old i l)))
+    carried' i h = ⊎_elim
+        (λ l. ap (label (i + 1)) (point_old (i + 1) (omega arith)) ∙ (t.traced.carried i l ∙ carry_same i (point_old i (omega arith)) (via_old i l)))
         (λ l. let e : j ≡ i = omega arith in
         let next : i + 1 ≡ suc j = omega arith in
         ap (label (i + 1)) (point_new (i + 1) (omega arith)) ∙ (ap (λ m. label m p) next ∙ (r.value
@@ -220,7 +222,10 @@ module _ {k : Kind} (laws : Lawful k) (n : ℕ) (edges : Bounds k) (inside : All
 
   pub rest_solves : ((p : ℕ) → p < n → Le k (label (suc n) p) (label n p)) → Solution k edges settled
   unfolding settled
-  rest_solves still = record { zero_first = laws.cancels (label n 0); meets = All-weaker (Contains edges) (Meets k settled) (rest_meets still) edges (All-contains_itself edges) }
+  rest_solves still = record {
+    zero_first = laws.cancels (label n 0);
+    meets = All-weaker (Contains edges) (Meets k settled) (rest_meets still) edges (All-contains_itself edges);
+  }
 
   -- After n rounds the labels rest, or some point still rises. Then it has risen in each round, and more rounds than points were traced.
   pub chain_or_rest : ((row : Bounds k) × ChainIn k edges row) ⊎ ((p : ℕ) → p < n → Le k (label (suc n) p) (label n p))
@@ -235,7 +240,8 @@ module _ {k : Kind} (laws : Lawful k) (n : ℕ) (edges : Bounds k) (inside : All
           inl (stretch t.via r.from r.to, r.chain)
 
 pub chain_or_solution : {k : Kind} → Lawful k → ChainOrSolution k
-chain_or_solution laws n edges inside = ⊎_elim (λ c. inl c) (λ still. inr (settled laws n edges inside, rest_solves laws n edges inside still)) (chain_or_rest laws n edges inside)
+chain_or_solution laws n edges inside =
+    ⊎_elim (λ c. inl c) (λ still. inr (settled laws n edges inside, rest_solves laws n edges inside still)) (chain_or_rest laws n edges inside)
 
 pub chain_free_is_met : {k : Kind} → Lawful k → ChainFreeIsMet k
 chain_free_is_met laws n edges inside = (

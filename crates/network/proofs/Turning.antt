@@ -1,23 +1,20 @@
 -- A chain begun elsewhere, and the chain that a posted bound closes. Assumes nothing.
-use Rattle.std.proofs.Common.{◌≡◌, ℕ, ◌⊎◌, List, [], ◌∷◌, ◌++◌, sym, refl, ap, ◌∙◌, inl, inr, ⊎_elim, append_assoc, append-nil}
+use Rattle.std.proofs.Common.{◌≡◌, ℕ, ◌⊎◌, [], ◌∷◌, ◌++◌, sym, refl, ap, ◌∙◌, inl, inr, ⊎_elim, append_assoc, append-nil}
 use Rattle.std.proofs.lemmas.List.{map-append}
 use Rattle.std.specs.List.{All, Contains}
 use Rattle.std.proofs.lemmas.List.Elements.{All-nil, All-cons, All-head, All-tail, All-push, Contains-append_left, Contains-append_right, Contains-push_cases, Contains-append_cases}
 use Rattle.delays.specs.Kind.{Kind, Exact, Lawful}
 use Rattle.network.specs.Bounds.{ExactBound, Bounds, floors, bounds_in_force}
 use Rattle.network.specs.Assignments.{Solution}
-use Rattle.network.specs.Walks.{sum_of, Walk, lefts, Apart}
+use Rattle.network.specs.Walks.{sum_of, Walk, lefts}
 use Rattle.network.specs.Chains.{ChainIn, ChainFrom, ChainTurns, ChainFromPosted}
+use Rattle.network.proofs.Counting.{apart_turn}
 use Rattle.network.proofs.Walking.{chain_refutes}
 use Rattle.network.proofs.Shortening.{sum_of-append}
 
 pub walk_push : {k : Kind} (xs : Bounds k) (x : ExactBound k) (p q : ℕ) → Walk p xs q → x.left ≡ q → Walk p (xs ++ x ∷ []) x.right
 walk_push [] x p q w e = (e ∙ sym w, refl)
 walk_push (b ∷ bs) x p q w e = (w.0, walk_push bs x b.right q w.1 e)
-
-apart_push : (xs : List ℕ) (x : ℕ) → All (λ y. ¬ (x ≡ y)) xs → Apart xs → Apart (xs ++ x ∷ [])
-apart_push [] x h a = (All-nil (λ y. ¬ (x ≡ y)), tt)
-apart_push (y ∷ ys) x h a = (All-push (λ z. ¬ (y ≡ z)) ys x a.0 (λ e. All-head (λ z. ¬ (x ≡ z)) y ys h (sym e)), apart_push ys x (All-tail (λ z. ¬ (x ≡ z)) y ys h) a.1)
 
 module _ {k : Kind} (laws : Lawful k) where
   -- the first bound goes to the end
@@ -26,7 +23,7 @@ module _ {k : Kind} (laws : Lawful k) where
     chain = record {
       start = x.right;
       closed = walk_push xs x x.right chain.start chain.closed.1 chain.closed.0;
-      apart = rw (map-append (λ b. b.left) xs (x ∷ [])) (apart_push (lefts xs) x.left chain.apart.0 chain.apart.1);
+      apart = rw (map-append (λ b. b.left) xs (x ∷ [])) (apart_turn x.left (lefts xs) chain.apart);
       below = rw (sum_of-append laws xs (x ∷ []), laws.zero_adds_nothing x.delay, laws.comm (sum_of k xs) x.delay) chain.below;
     };
     held = All-push (Contains edges) xs x (All-tail (Contains edges) x xs c.held) (All-head (Contains edges) x xs c.held);
@@ -62,7 +59,8 @@ module _ {k : Kind} (laws : Lawful k) where
         go (inr p) = record { front = p.0; back = p.1; split = p.2; turned = chain_turns new p.0 (b ∷ p.1) (rw p.2 at c) }
 
   -- a bound in force after b was posted was in force before, or is b
-  pub posted_either : (n : ℕ) (book : Bounds k) (b x : ExactBound k) → Contains (bounds_in_force k n (book ++ b ∷ [])) x → Contains (bounds_in_force k n book) x ⊎ (b ≡ x)
+  pub posted_either : (n : ℕ) (book : Bounds k) (b x : ExactBound k) → Contains (bounds_in_force k n (book ++ b ∷ [])) x
+      → Contains (bounds_in_force k n book) x ⊎ (b ≡ x)
   posted_either n book b x has =
       ⊎_elim (λ h. ⊎_elim (λ old. inl (Contains-append_left book (floors k n) x old)) (λ new. inr new) (Contains-push_cases book b x h))
       (λ h. inl (Contains-append_right book (floors k n) x h)) (Contains-append_cases (book ++ b ∷ []) (floors k n) x has)

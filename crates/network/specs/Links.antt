@@ -1,5 +1,5 @@
 -- The bounds of a chain by name, and their words. What a word is read as is told by the writing alone. Assumes nothing.
-use Rattle.std.specs.Prelude.{◌≡◌, ℕ, ◌+◌, ◌*◌, ◌^◌, ◌<◌}
+use Rattle.std.specs.Prelude.{◌≡◌, ℕ, ◌+◌, ◌*◌, ◌^◌, ◌<◌, ◌≤◌, Ok, Err, Result}
 use Rattle.delays.specs.Kind.{Kind}
 use Rattle.network.specs.Bounds.{ExactBound, Bounds, Numbered, floor_of}
 use Rattle.network.specs.declared.link.Link.{Link}
@@ -21,6 +21,16 @@ low_bits Posted = 0
 pub record HasWord (l : Link) (w : ℕ) : Type 0 where
   pub room : low_bits l < 2 ^ 30
   pub value : w ≡ top_bits l * 2 ^ 30 + low_bits l
+
+-- the word of the link, or its refusal exactly where the link has none
+abbrev pub WordOf : {E : Type 0} → Link → Result ℕ E → Type 0
+WordOf l (Ok w) = HasWord l w
+WordOf l (Err e) = 2 ^ 30 ≤ low_bits l
+
+-- the link that has the word w, or a refusal exactly where none has it
+abbrev pub LinkOf : {E : Type 0} → ℕ → Result Link E → Type 0
+LinkOf w (Ok l) = HasWord l w
+LinkOf w (Err e) = (l : Link) → HasWord l w → ⊥
 
 -- the bound that the link names, where the book holds these bounds and one was posted to it
 abbrev pub Names : (k : Kind) → Bounds k → ExactBound k → Link → ExactBound k → Type 0

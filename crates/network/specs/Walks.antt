@@ -1,5 +1,5 @@
 -- Walks over bounds, their sums, and paths. Assumes nothing.
-use Rattle.std.specs.Prelude.{◌≡◌, ℕ, ◌<◌, List, [], ◌∷◌, map, length, All, Contains}
+use Rattle.std.specs.Prelude.{◌≡◌, ◌≢◌, ℕ, ◌<◌, List, [], ◌∷◌, map, length, All, AllPairs, Contains}
 use Rattle.delays.specs.Kind.{Kind, Exact}
 use Rattle.delays.specs.Totals.{total}
 use Rattle.network.specs.Bounds.{Bounds, Inside}
@@ -23,9 +23,8 @@ abbrev pub stops : {k : Kind} → ℕ → Bounds k → List ℕ
 stops p row = p ∷ map (λ b. b.right) row
 
 -- no number twice
-abbrev pub Apart : List ℕ → Type 0
-Apart [] = Unit {0}
-Apart (x ∷ xs) = All (λ y. ¬ (x ≡ y)) xs × Apart xs
+unfoldable pub Apart : List ℕ → Type 0
+Apart = AllPairs ◌≢◌
 
 -- a path from p to q: a walk over bounds of the list in which no point comes twice
 pub record Path (k : Kind) (edges : Bounds k) (p q : ℕ) (row : Bounds k) : Type 0 where

@@ -18,7 +18,7 @@ fn never_leaves<D: Delay>(row: &[Edge<D>], point: usize) -> bool
 }
 
 // Whether no left point comes twice.
-#[tactic(auto, using(crate::proofs::Checking::apart_first, crate::proofs::Checking::apart_more))]
+#[tactic(auto, using(crate::proofs::Checking::apart_steps))]
 fn lefts_apart<D: Delay>(row: &[Edge<D>]) -> bool
     ensures { Decides result (Apart (map (λ e. e.left) row.now)) }
 {

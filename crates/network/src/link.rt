@@ -1,9 +1,8 @@
 // The bounds of a chain as they are named to a caller, and their words.
-ghost use Rattle.std.specs.Prelude.{◌≡◌, Some, ◌+◌, ◌*◌, ◌^◌, ◌<◌, ◌≤◌, MatchResult};
+ghost use Rattle.std.specs.Prelude.{◌≡◌, Some, ◌+◌, ◌*◌, ◌^◌, ◌<◌, ◌≤◌, ◌↔◌, IfOk, IsOk};
 ghost use Rattle.network.specs.Edges.{LinkRead};
-ghost use Rattle.network.specs.Links.{low_bits, HasWord, OneWord, OneLink};
+ghost use Rattle.network.specs.Links.{WordOf, LinkOf, OneWord, OneLink};
 ghost use Rattle.network.specs.Reasons.{no_word_reason, no_link_reason};
-ghost use Rattle.network.specs.declared.link.Link.{Link as AnyLink};
 
 use crate::edge::{Edge, floor};
 use delays::Delay;
@@ -21,11 +20,11 @@ pub enum Link {
     Posted,
 }
 
-// A link that has no word: its number is 2^30 or more.
+// The refusal of a link that has no word: its number is 2^30 or more. It is the answer of a conversion, so it has no fault number.
 #[derive(Clone, Copy, PartialEq, Eq, Debug)]
 pub struct NoWord;
 
-// A word that no link has.
+// The refusal of a word that no link has. It has no fault number either.
 #[derive(Clone, Copy, PartialEq, Eq, Debug)]
 pub struct NoLink;
 
@@ -54,25 +53,32 @@ const UNIT: u32 = 0x4000_0000;
 
 // The top bits of each sort of link.
 const BOOK: u32 = UNIT;
+
 const FLOOR: u32 = 2 * UNIT;
+
 const POSTED: u32 = 3 * UNIT;
 
 // The word with these top bits, and the number below them where it has room there.
 fn tagged(top: u32, low: u32) -> Result<u32, NoWord>
     requires { top ≤ 3 * 2 ^ 30 }
-    ensures { MatchResult result (λ w. (low < 2 ^ 30) × (w ≡ top + low)) (λ _. 2 ^ 30 ≤ low) }
+    ensures value { IfOk result (λ w. w ≡ top + low) }
+    ensures room { IsOk result ↔ (low < 2 ^ 30) }
 {
-    if low < UNIT { Ok(top + low) } else { Err(NoWord) }
+    if low < UNIT {
+        Ok(top + low)
+    } else {
+        Err(NoWord)
+    }
 }
 
 // The word of a link. A link has one word, and a word one link.
 impl TryFrom<Link> for u32 {
     type Error = NoWord;
 
-    ghost try_from_gives = { λ link r. MatchResult r (HasWord link) (λ _. 2 ^ 30 ≤ low_bits link) };
+    ghost try_from_gives = { WordOf };
 
     fn try_from(link: Link) -> Result<u32, NoWord>
-        ensures value { MatchResult result (HasWord link) (λ _. 2 ^ 30 ≤ low_bits link) }
+        ensures value { WordOf link result }
         ensures word { OneWord }
         ensures link { OneLink }
     {
@@ -88,7 +94,7 @@ impl TryFrom<Link> for u32 {
 impl TryFrom<u32> for Link {
     type Error = NoLink;
 
-    ghost try_from_gives = { λ word r. MatchResult r (λ l. HasWord l word) (λ _. (l : AnyLink) → HasWord l word → ⊥) };
+    ghost try_from_gives = { LinkOf };
 
     fn try_from(word: u32) -> Result<Link, NoLink> {
         let low = word % UNIT;

@@ -20,6 +20,7 @@ pub fn sum<D: Delay>(row: &[Edge<D>]) -> Option<D>
 }
 
 // Whether the row leads from one point to another.
+#[tactic(auto, using(crate::proofs::Checking::walk_steps))]
 pub(crate) fn leads<D: Delay>(row: &[Edge<D>], from: usize, to: usize) -> bool
     ensures { Decides result (Walk from (bounds_of D.kind D.means row.now) to) }
 {

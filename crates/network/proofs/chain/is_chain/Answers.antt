@@ -1,5 +1,4 @@
-use Rattle.std.proofs.Common.{rules, Decides}
-use Rattle.network.specs.Assignments.{Lt}
+use Rattle.std.proofs.Common.{rules}
 use Rattle.network.proofs.Checking.{chain_decided, not_past}
 use Rattle.network.proofs.Repeating.{rounds_repeat}
 use Rattle.network.proofs.Theorems.{chain_theory}
@@ -21,9 +20,8 @@ pub returns-clause-answer : goal.returns-clause-answer
 returns-clause-answer g c =
     let d = g.D.Delay in
     let row = c.args.row.now in
-    let sums = c.in_ok-sum.ensures.sums in
-    let below : Decides c.lt.result (Lt d.kind (d.means c.in_ok-sum.sum) d.kind.zero) = search rules in (
-      chain_decided d.kind d.means row c.lt.result (d.means c.in_ok-sum.sum) (c.is_cycle.ensures.0 c.if-not-is_cycle.false) sums.0 below,
+    let sums = c.in_ok-sum.ensures.sums in (
+      chain_decided d.kind d.means row _ (d.means c.in_ok-sum.sum) (c.is_cycle.ensures.0 c.if-not-is_cycle.false) sums.0 (search rules),
       λ cycle past. not_past d.kind d.means row sums.1 past,
     )
 
