@@ -1,5 +1,5 @@
 -- Where a line is cut into fields.
-use Rattle.std.proofs.Common.{◌≡◌, ℕ, zero, suc, ◌+◌, ◌^◌, ◌<◌, ◌≤◌, ◌⊎◌, Bool, eqb, true, false, List, [], ◌∷◌, ◌++◌, length, get_or, Some, None, Option, IfSome, Bor, ap, sym, subst, ◌∙◌, inl, inr, arith, cond, refl}
+use Rattle.std.proofs.Common.{◌≡◌, ℕ, zero, suc, ◌+◌, ◌^◌, ◌<◌, ◌≤◌, ◌⊎◌, Bool, eqb, true, false, List, [], ◌∷◌, ◌++◌, length, get_or, Some, None, Option, IfSome, Bor, ap, subst, ◌∙◌, inl, inr, arith, cond, refl}
 use Rattle.std.proofs.lemmas.Bool.{ne_eqb, cases_eq}
 use Rattle.std.proofs.lemmas.Grind.{common_steps}
 use Rattle.std.proofs.lemmas.List.{get_or_default}

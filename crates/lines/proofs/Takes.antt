@@ -1,9 +1,9 @@
 -- Values that are taken one by one from the fields of a line.
-use Rattle.std.proofs.Common.{◌≡◌, ℕ, zero, suc, ◌+◌, ◌-◌, ◌<◌, List, [], ◌∷◌, ◌++◌, length, take, set, Ok, Err, Some, Option, Result, refl, ap, sym, ◌∙◌, inl, inr, append_assoc, add-one, arith}
-use Rattle.std.proofs.lemmas.List.{take_all, take_more_set}
+use Rattle.std.proofs.Common.{◌≡◌, ℕ, suc, ◌+◌, ◌-◌, ◌<◌, List, [], ◌∷◌, ◌++◌, length, take, set, Ok, Err, Some, Option, Result, refl, ap, sym, ◌∙◌, inl, inr, append_assoc, add-one, arith}
+use Rattle.std.proofs.lemmas.List.{take_more_set}
 use Rattle.lines.specs.declared.fault.LineFault.{LineFault}
 use Rattle.lines.specs.Faults.{place_of}
-use Rattle.lines.specs.Reading.{with_first, readings, Taken, Ended}
+use Rattle.lines.specs.Reading.{with_first, readings, Taken}
 
 -- the values xs, and then those of a reading
 abbrev pub after : {X : Type 0} → List X → Result (List X) ℕ → Result (List X) ℕ
