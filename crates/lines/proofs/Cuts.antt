@@ -1,5 +1,5 @@
 -- Where a line is cut into fields.
-use Rattle.std.proofs.Common.{◌≡◌, ℕ, zero, suc, ◌+◌, ◌^◌, ◌<◌, ◌≤◌, ◌⊎◌, Bool, eqb, true, false, List, [], ◌∷◌, ◌++◌, length, get_or, Some, None, Option, IfSome, Bor, ap, sym, subst, ◌∙◌, inl, inr, arith, cond, refl}
+use Rattle.std.proofs.Common.{◌≡◌, ℕ, zero, suc, ◌+◌, ◌^◌, ◌<◌, ◌≤◌, ◌⊎◌, Bool, eqb, true, false, List, [], ◌∷◌, ◌++◌, length, get_or, Some, None, Option, Bor, ap, subst, ◌∙◌, inl, inr, arith, cond, refl}
 use Rattle.std.proofs.lemmas.Bool.{ne_eqb, cases_eq}
 use Rattle.std.proofs.lemmas.Grind.{common_steps}
 use Rattle.std.proofs.lemmas.List.{get_or_default}
@@ -73,6 +73,6 @@ fields_few : (bs : List ℕ) → length (fields bs) ≤ length bs + 1
 fields_few bs = omega (arith, length-slice_split (λ c. eqb c 32) bs, count_by-le-length (λ c. eqb c 32) bs)
 
 -- and so has what is left of one, which is shorter than 2 ^ 63 bytes
-pub left_few : (o : Option (Bor (List ℕ))) → IfSome o (λ r. length r.now < 2 ^ 63) → length (left_in o) ≤ 2 ^ 63
+pub left_few : (o : Option (Bor (List ℕ))) → ((line : Bor (List ℕ)) → o ≡ Some line → length line.now < 2 ^ 63) → length (left_in o) ≤ 2 ^ 63
 left_few None h = omega arith
-left_few (Some r) h = omega (arith, fields_few r.now)
+left_few (Some r) h = omega (arith, fields_few r.now, h r refl)

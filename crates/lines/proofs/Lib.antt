@@ -1,6 +1,6 @@
 pub mod Arrays
 pub mod Cuts
-pub mod Values
+pub mod Digits
 pub mod Front
 pub mod Keeping
 pub mod Takes

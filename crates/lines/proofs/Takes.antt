@@ -1,9 +1,9 @@
 -- Values that are taken one by one from the fields of a line.
-use Rattle.std.proofs.Common.{◌≡◌, ℕ, zero, suc, ◌+◌, ◌-◌, ◌<◌, List, [], ◌∷◌, ◌++◌, length, take, set, Ok, Err, Some, Option, Result, refl, ap, sym, ◌∙◌, inl, inr, append_assoc, add-one, arith}
-use Rattle.std.proofs.lemmas.List.{take_all, take_more_set}
+use Rattle.std.proofs.Common.{◌≡◌, ℕ, suc, ◌+◌, ◌-◌, ◌<◌, List, [], ◌∷◌, ◌++◌, length, take, set, Ok, Err, Some, Option, Result, refl, ap, sym, ◌∙◌, inl, inr, append_assoc, add-one, arith}
+use Rattle.std.proofs.lemmas.List.{take_more_set}
 use Rattle.lines.specs.declared.fault.LineFault.{LineFault}
 use Rattle.lines.specs.Faults.{place_of}
-use Rattle.lines.specs.Reading.{with_first, readings, Taken, Ended}
+use Rattle.lines.specs.Reading.{with_first, readings, Taken}
 
 -- the values xs, and then those of a reading
 abbrev pub after : {X : Type 0} → List X → Result (List X) ℕ → Result (List X) ℕ
@@ -29,13 +29,10 @@ module _ {X : Type 0} (read : List ℕ → Option X) where
   pub taken : (n i : ℕ) (xs : List X) (fs gs : List (List ℕ)) (x : X) → i < n → i < length xs → Taken read (i + 1) fs (Ok x) gs
       → after (take i xs) (readings read (i + 1) (n - i) fs) ≡ after (take (i + 1) (set xs i x)) (readings read (i + 1 + 1) (n - (i + 1)) gs)
   taken n i xs fs gs x h k t =
-      let left : n - i ≡ suc (n - (i + 1)) = omega arith in
-      ap (λ m. after (take i xs) (readings read (i + 1) m fs)) left
-      ∙ (ap (λ l. after (take i xs) (readings read (i + 1) (suc (n - (i + 1))) l)) t.1
-      ∙ (ap (λ o. after (take i xs) (with_first (i + 1) o (readings read (suc (i + 1)) (n - (i + 1)) gs))) t.2
-      ∙ (after_more (i + 1) (take i xs) x _
-      ∙ (ap (λ l. after l (readings read (suc (i + 1)) (n - (i + 1)) gs)) (sym (take_more_set xs i x k))
-      ∙ ap (λ q. after (take (i + 1) (set xs i x)) (readings read q (n - (i + 1)) gs)) (sym (add-one (i + 1)))))))
+      let m : ℕ = n - (i + 1) in
+      let left : n - i ≡ suc m = omega arith in
+      let step : readings read (i + 1) (suc m) (t.0 ∷ gs) ≡ with_first (i + 1) (read t.0) (readings read (suc (i + 1)) m gs) = refl in
+      cc (left, t.1, t.2, step, add-one (i + 1), take_more_set xs i x k, after_more (i + 1) (take i xs) x (readings read (suc (i + 1)) m gs))
 
   -- a field that is missing or bad ends the reading at its place
   pub refused : (p k : ℕ) (fs gs : List (List ℕ)) (e : LineFault) → Taken read p fs (Err e) gs → readings read p (suc k) fs ≡ Err (place_of e)

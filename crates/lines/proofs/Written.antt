@@ -1,5 +1,5 @@
 -- What is written of a number is read as that number, and texts with spaces between them are read one by one. Assumes nothing.
-use Rattle.std.proofs.Common.{◌≡◌, ℕ, suc, ◌+◌, ◌*◌, ◌/◌, ◌%◌, ◌^◌, ◌<◌, List, [], ◌∷◌, ◌++◌, length, get_or, ℤ, pos, negsuc, Some, None, Ok, decimal, Option, refl, ap, ◌∙◌, arith}
+use Rattle.std.proofs.Common.{◌≡◌, ℕ, suc, ◌+◌, ◌*◌, ◌/◌, ◌%◌, ◌^◌, ◌<◌, List, [], ◌∷◌, ◌++◌, length, get_or, ℤ, pos, negsuc, Some, None, Ok, decimal, Option, option_and_then, option_map, neg_ℤ, refl, ap, ◌∙◌, arith}
 use lib.Signed.{mag}
 use Rattle.std.proofs.lemmas.Fmt.{decimal_is_IsNumeral, decimal_nonempty, decimal_by_steps, length-decimal-le}
 use Rattle.std.proofs.lemmas.Str.Parse.{numerals_by_value, tells_digits, not_in_digits}
@@ -8,8 +8,8 @@ use Rattle.std.proofs.lemmas.Bool.Decides.{nat_tests}
 use Rattle.std.specs.Str.Parse.{AllDigits}
 use Rattle.std.specs.Int.{IsInRange}
 use Rattle.std.specs.Fmt.{signed_decimal}
-use Rattle.lines.specs.Digits.{digit, and_then, digits_after}
-use Rattle.lines.specs.Decimal.{natural, positive, negative, number}
+use Rattle.lines.specs.Digits.{digit, digits_after}
+use Rattle.lines.specs.Decimal.{natural, number}
 use Rattle.lines.specs.Fields.{fields}
 use Rattle.lines.specs.Reading.{with_first, readings}
 use Rattle.lines.proofs.Cuts.{Solid, solid_more, fields_last, fields_cut}
@@ -34,15 +34,15 @@ readings_more read p k text rest x xs w e =
 
 -- a digit in front of others is taken into the number so far
 pub digits_more : (base n c d : ℕ) (cs : List ℕ) → digit base c ≡ Some d → digits_after base n (c ∷ cs) ≡ digits_after base (n * base + d) cs
-digits_more base n c d cs e = ap (λ o. and_then o (λ d. digits_after base (n * base + d) cs)) e
+digits_more base n c d cs e = ap (option_and_then (λ d. digits_after base (n * base + d) cs)) e
 
 -- a function at what another gives, in one step or in two
-then_next : (o : Option ℕ) (f g h : ℕ → Option ℕ) → ((d : ℕ) → f d ≡ and_then (g d) h) → and_then o f ≡ and_then (and_then o g) h
+then_next : (o : Option ℕ) (f g h : ℕ → Option ℕ) → ((d : ℕ) → f d ≡ option_and_then h (g d)) → option_and_then f o ≡ option_and_then h (option_and_then g o)
 then_next None f g h e = refl
 then_next (Some d) f g h e = e d
 
 -- digits after others go on from the number that those write
-digits_append : (base n : ℕ) (xs ys : List ℕ) → digits_after base n (xs ++ ys) ≡ and_then (digits_after base n xs) (λ m. digits_after base m ys)
+digits_append : (base n : ℕ) (xs ys : List ℕ) → digits_after base n (xs ++ ys) ≡ option_and_then (λ m. digits_after base m ys) (digits_after base n xs)
 digits_append base n [] ys = refl
 digits_append base n (c ∷ cs) ys =
     then_next (digit base c) _ (λ d. digits_after base (n * base + d) cs) (λ m. digits_after base m ys) (λ d. digits_append base (n * base + d) cs ys)
@@ -56,7 +56,7 @@ digits_decimal : (n : ℕ) → n < 2 ^ 64 → digits_after 10 0 (decimal n) ≡ 
 digits_decimal =
     decimal_by_steps (λ n ds. digits_after 10 0 ds ≡ Some n)
     (λ n h. digits_more 10 0 (48 + n) n [] (figure n h) ∙ ap Some (omega arith))
-    (λ n ds h e. digits_append 10 0 ds _ ∙ (ap (λ o. and_then o (λ m. digits_after 10 m ((48 + n % 10) ∷ []))) e
+    (λ n ds h e. digits_append 10 0 ds _ ∙ (ap (option_and_then (λ m. digits_after 10 m ((48 + n % 10) ∷ []))) e
     ∙ (digits_more 10 (n / 10) (48 + n % 10) (n % 10) [] (figure (n % 10) (omega arith)) ∙ ap Some (omega arith))))
 
 -- a number is written with no byte but digits
@@ -70,7 +70,7 @@ natural_decimal n h =
     ∙ digits_decimal n (omega arith)
 
 -- a field with no minus in front has the number of its digits
-number_plain : (ds : List ℕ) → (0 < length ds → get_or ds 0 0 ≡ 45 → ⊥) → number ds ≡ positive (natural ds)
+number_plain : (ds : List ℕ) → (0 < length ds → get_or ds 0 0 ≡ 45 → ⊥) → number ds ≡ option_map pos (natural ds)
 number_plain [] h = refl
 number_plain (c ∷ cs) h = cond-false _ _ _ (ne_eqb c 45 (h (omega arith)))
 
@@ -78,7 +78,7 @@ number_plain (c ∷ cs) h = cond-false _ _ _ (ne_eqb c 45 (h (omega arith)))
 pub decimal_writes : (n : ℕ) → n < 10 ^ 10 → Writes number (decimal n) (pos n)
 decimal_writes n h = record {
   solid = decimal_lacks n 32 (omega arith) (λ i. omega arith);
-  value = number_plain (decimal n) (decimal_lacks n 45 (omega arith) (λ i. omega arith) 0) ∙ ap positive (natural_decimal n h);
+  value = number_plain (decimal n) (decimal_lacks n 45 (omega arith) (λ i. omega arith) 0) ∙ ap (option_map pos) (natural_decimal n h);
 }
 
 -- and so is a whole number, with its minus
@@ -86,5 +86,5 @@ pub signed_writes : (z : ℤ) → mag z + 1 < 10 ^ 10 → Writes number (signed_
 signed_writes (pos n) h = decimal_writes n (omega arith)
 signed_writes (negsuc n) h = record {
   solid = solid_more 45 (decimal (suc n)) (λ e. omega arith) (decimal_writes (suc n) (omega arith)).solid;
-  value = ap negative (natural_decimal (suc n) (omega arith));
+  value = ap (option_map (λ n. neg_ℤ (pos n))) (natural_decimal (suc n) (omega arith));
 }

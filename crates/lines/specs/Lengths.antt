@@ -1,8 +1,8 @@
 -- A field that is too long holds nothing. Assumes nothing.
-use Rattle.std.specs.Prelude.{◌≡◌, ℕ, ◌<◌, List, [], ◌∷◌, length, None, refl}
+use Rattle.std.specs.Prelude.{◌≡◌, ℕ, ◌<◌, List, [], ◌∷◌, length, None, pos, neg_ℤ, option_map, refl}
 use Rattle.std.proofs.Common.{eqb, ap, arith}
 use Rattle.std.proofs.lemmas.Bool.{lt-leb, ne_eqb, and_right, cond-false, cond_both}
-use Rattle.lines.specs.Decimal.{natural, positive, negative, number}
+use Rattle.lines.specs.Decimal.{natural, number}
 use Rattle.lines.specs.Hex.{word}
 
 -- more than ten digits are no number
@@ -14,8 +14,8 @@ pub number_long : (f : List ℕ) → 11 < length f → number f ≡ None
 number_long [] h = refl
 number_long (c ∷ cs) h =
     cond_both (eqb c 45) _ _ (λ o. o ≡ None)
-    (λ _. ap negative (natural_long cs (omega arith)))
-    (λ _. ap positive (natural_long (c ∷ cs) (omega arith)))
+    (λ _. ap (option_map (λ n. neg_ℤ (pos n))) (natural_long cs (omega arith)))
+    (λ _. ap (option_map pos) (natural_long (c ∷ cs) (omega arith)))
 
 -- a field of more than eight bytes is no word
 pub word_long : (f : List ℕ) → 8 < length f → word f ≡ None

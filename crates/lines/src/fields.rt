@@ -1,6 +1,5 @@
 // A line as fields, which are the parts between single spaces.
-ghost use Rattle.std.specs.Prelude.{◌<◌, ◌^◌, length, IfSome};
-ghost use Rattle.std.proofs.Props.{props};
+ghost use Rattle.std.specs.Prelude.{◌≡◌, ◌<◌, ◌^◌, Some, length};
 
 use crate::fault::LineFault;
 use crate::number::FromField;
@@ -11,7 +10,7 @@ pub struct Fields<'a> {
     // What is left of the line. After a last space an empty field is left, so nothing and an empty rest differ.
     rest: Option<&'a [u8]>,
     // No slice is longer, so the place of a field fits in 64 bits.
-    ghost short: { IfSome rest (λ r. length r.now < 2 ^ 63) } by { Prim.hlevel props },
+    ghost short: { (line : _) → rest ≡ Some line → length line.now < 2 ^ 63 },
 }
 
 impl<'a> Iterator for Fields<'a> {
@@ -33,7 +32,6 @@ impl<'a> Iterator for Fields<'a> {
 }
 
 impl<'a> Fields<'a> {
-    ghost use Rattle.std.specs.Prelude.{◌≡◌};
     ghost use Rattle.lines.specs.Fields.{fields, left_of};
     ghost use Rattle.lines.specs.Reading.{Taken, Ended, HoldsJust};
 
@@ -72,5 +70,18 @@ impl<'a> Fields<'a> {
         }
         self.end(N as u64 + 1)?;
         Ok(values)
+    }
+}
+
+#[cfg(test)]
+mod tests {
+    use super::*;
+
+    #[test]
+    fn fields_of_a_line(rt: HostRuntime) {
+        let mut fields = Fields::new(b"a  b ");
+        assert_eq!(rt; fields.next(), Some(b"a".as_slice()));
+        assert_eq!(rt; fields.next(), Some(b"".as_slice()));
+        assert_eq!(rt; fields.count(), 2);
     }
 }

@@ -1,8 +1,8 @@
-use Rattle.std.proofs.Common.{◌+◌, ◌*◌, ◌^◌, ◌<◌, None, Some, sym, refl, ◌∙◌, arith, rules}
+use Rattle.std.proofs.Common.{None, Some, sym, refl, ◌∙◌, arith, rules}
 use native.Mathlib.Nat.{pow-zero}
 use Rattle.std.proofs.lemmas.List.{at_drop_all}
 use Rattle.lines.specs.Digits.{digits_after}
-use Rattle.lines.proofs.Values.{digit_next, digit_below, next_fits}
+use Rattle.lines.proofs.Digits.{digit_next, digit_below, next_fits}
 use Rattle.lines.proofs.number.digits_in.Goals as goal
 
 pub loop-b-init : goal.loop-b-init

@@ -1,7 +1,7 @@
-use Rattle.std.proofs.Common.{◌≡◌, ◌+◌, ◌-◌, suc, [], take, Ok, Err, ap, sym, subst, ◌∙◌, append-nil, arith, rules}
+use Rattle.std.proofs.Common.{◌≡◌, ◌+◌, ◌-◌, suc, [], take, Ok, Err, ap, sym, ◌∙◌, append-nil, arith, rules}
 use Rattle.std.proofs.lemmas.List.{take_all, length-set}
 use Rattle.lines.specs.Fields.{left_of}
-use Rattle.lines.specs.Reading.{Taken, Ended, readings, listed}
+use Rattle.lines.specs.Reading.{Taken, readings, listed}
 use Rattle.lines.proofs.Cuts.{left_few}
 use Rattle.lines.proofs.Takes.{after, one_less, taken, refused}
 use Rattle.lines.proofs.fields.Fields.last_values.Goals as goal
