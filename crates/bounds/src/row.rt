@@ -4,7 +4,7 @@ ghost use Rattle.bounds.specs.Text.{row_text};
 use std::fmt;
 
 // The four numbers of a bound as tables keep them. A row has no range of its own: a bound is made from it on reading.
-#[derive(Clone, Copy, PartialEq, Eq, Debug)]
+#[derive(Clone, Copy, PartialEq, Eq, Debug, Default)]
 pub struct Row {
     pub left: u16,
     pub right: u16,
