@@ -4,7 +4,7 @@ ghost use Rattle.bounds.specs.Text.{row_text};
 use std::fmt;
 
 // The four numbers of a bound as tables keep them. A row has no range of its own: a bound is made from it on reading.
-#[derive(Clone, Copy, PartialEq, Eq, Debug, Default)]
+#[derive(Clone, Copy, PartialEq, Eq, Default, Debug)]
 pub struct Row {
     pub left: u16,
     pub right: u16,
@@ -17,10 +17,7 @@ impl fmt::Display for Row {
     ghost output = { λ r. Some (row_text r) };
 
     fn fmt<W: fmt::Write>(&self, f: &mut fmt::Formatter<W>) -> fmt::Result {
-        let left = self.left;
-        let right = self.right;
-        let t = self.t;
-        let s = self.s;
+        let Row { left, right, t, s } = *self;
         write!(f, "{left} {right} {t} {s}")
     }
 }

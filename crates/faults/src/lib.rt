@@ -16,12 +16,12 @@ pub enum Layer {
     Lines,
 }
 
-impl Layer {
-    // The letter that stands for the layer wherever a fault is printed.
-    pub fn letter(self) -> char
-        ensures { result ≡ letter_of self }
-    {
-        match self {
+// The letter that stands for the layer wherever a fault is printed.
+impl From<Layer> for char {
+    ghost from_gives = { λ l c. c ≡ letter_of l };
+
+    fn from(layer: Layer) -> char {
+        match layer {
             Layer::Bounds => 'D',
             Layer::Kinds => 'K',
             Layer::Books => 'B',
@@ -43,9 +43,12 @@ impl fmt::Display for Fault {
     ghost output = { λ f. Some (fault_text f) };
 
     fn fmt<W: fmt::Write>(&self, f: &mut fmt::Formatter<W>) -> fmt::Result {
-        let number = self.number;
-        let letter = self.layer.letter();
-        let place = self.place;
+        let Fault {
+            number,
+            layer,
+            place,
+        } = *self;
+        let letter = char::from(layer);
         write!(f, "fault {number}, layer {letter}, place {place}")
     }
 }

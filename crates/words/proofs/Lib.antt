@@ -1,2 +1,3 @@
 pub mod Writings
 pub mod Readings
+pub mod Texts

@@ -1,9 +1,9 @@
 -- The reading of rows of words, and the law of house words. Assumes nothing.
-use Rattle.std.proofs.Common.{◌≡◌, ℕ, zero, suc, ◌+◌, ◌-◌, ◌*◌, ◌<◌, ◌≤◌, min, List, [], ◌∷◌, ◌++◌, length, get_or, take, drop, Ok, Err, Result, sym, refl, ap, ◌∙◌, subst, inl, inr, append-nil, arith, MatchResult}
-use Rattle.std.proofs.lemmas.List.{take_rest, take_at, take_all, take-take, length-take, length-append, get_or-append_right, length_push, nil_from_length}
-use Rattle.std.proofs.ByRecursion.{All-push}
+use Rattle.std.proofs.Common.{◌≡◌, ℕ, zero, suc, ◌+◌, ◌-◌, ◌*◌, ◌%◌, ◌<◌, ◌≤◌, min, List, [], ◌∷◌, ◌++◌, length, get_or, take, drop, Ok, Err, Result, sym, refl, ap, ◌∙◌, subst, inl, inr, append-nil, arith, MatchResult}
+use Rattle.std.proofs.lemmas.List.{take_rest, take_at, take_all, take-take, length-take, length-append, get_or-append_right, length_push}
+use Rattle.std.proofs.lemmas.List.Elements.{All-nil, All-cons, All-head, All-tail, All-push}
 use Rattle.std.proofs.lemmas.Bool.{cases_order}
-use Rattle.std.specs.List.{AllByRecursion}
+use Rattle.std.specs.List.{All}
 use Rattle.bounds.specs.declared.bound.Bound.{Bound}
 use Rattle.bounds.specs.declared.row.Row.{Row}
 use Rattle.bounds.specs.Making.{row_of}
@@ -12,19 +12,16 @@ use Rattle.bounds.proofs.Makes.{SameBound}
 use Rattle.words.specs.declared.fault.WordFault.{WordFault}
 use Rattle.words.specs.declared.fault.WordFault.TheVariants.{Length, Word}
 use Rattle.words.specs.Words.{row_words, writing}
-use Rattle.words.specs.Reading.{FitsAt, BreaksAt, BoundRead, RowsRead, Checked}
+use Rattle.words.specs.Reading.{FitsAt, BreaksAt, BoundRead, RowRead, RowsRead, Checked}
 use Rattle.words.specs.Law.{WritingHolds, OneWriting, OneReading, OneAnswer, ReadsBack, AcceptedIsWritten, Law}
 use Rattle.words.proofs.Writings.{writing_push, length-writing, same_row, row_fits, front3}
 
 -- the words ws begin with those of n rows, and rest is left
 pub record Passed (ws : List ℕ) (n : ℕ) (rest : List ℕ) : Type 0 where
   pub rows : List Row
-  pub sound : AllByRecursion Sound rows
+  pub sound : All Sound rows
   pub many : length rows ≡ n
   pub cut : ws ≡ writing rows ++ rest
-
-pub passed_none : (ws : List ℕ) → Passed ws 0 ws
-passed_none ws = record { rows = []; sound = tt; many = refl; cut = refl }
 
 -- one row more, of a bound with the next three words
 pub passed_more : (ws : List ℕ) (n : ℕ) (rest : List ℕ) (b : Bound) → Passed ws n rest → 3 ≤ length rest
@@ -40,17 +37,11 @@ passed_more ws n rest b p three e =
           ∙ ap (λ x. writing (p.rows ++ (row_of b ∷ [])) ++ x) (sym (take_rest rest 3))));
     }
 
--- the rows end where no word is left, or at a zero head
-pub passed_end : (ws : List ℕ) (n : ℕ) (rest : List ℕ) → Passed ws n rest → get_or rest 0 0 ≡ 0 → RowsRead ws (Ok n)
-passed_end ws n rest p none = (p.rows, p.many, record { sound = p.sound; after = rest; cut = p.cut; ends = none })
-
-pub passed_all : (ws : List ℕ) (n : ℕ) (rest : List ℕ) → Passed ws n rest → length rest ≡ 0 → RowsRead ws (Ok n)
-passed_all ws n rest p none = passed_end ws n rest p (ap (λ x. get_or x 0 0) (nil_from_length rest none))
-
--- the row that comes next is broken at k
-pub passed_broken : (ws : List ℕ) (n : ℕ) (rest : List ℕ) (k : ℕ) → Passed ws n rest → 3 ≤ length rest → (get_or rest 0 0 ≡ 0 → ⊥)
-    → BreaksAt (get_or rest 0 0 ∷ (get_or rest 1 0 ∷ (get_or rest 2 0 ∷ []))) k → RowsRead ws (Err (3 * n + k))
-passed_broken ws n rest k p three begins (small, fit, bad) =
+-- the row that comes next is broken
+pub passed_broken : (ws : List ℕ) (n : ℕ) (rest : List ℕ) (e : WordFault) → Passed ws n rest → 3 ≤ length rest → (get_or rest 0 0 ≡ 0 → ⊥)
+    → RowRead (3 * n) (get_or rest 0 0 ∷ (get_or rest 1 0 ∷ (get_or rest 2 0 ∷ []))) (Err e) → RowsRead ws (Err e)
+passed_broken ws n rest (Length m) p three begins never = never
+passed_broken ws n rest (Word q) p three begins (k, place, (small, fit, bad)) =
     let same : (j : ℕ) → j < 3 → get_or (get_or rest 0 0 ∷ (get_or rest 1 0 ∷ (get_or rest 2 0 ∷ []))) j 0 ≡ get_or rest j 0 = first3 rest in
     record {
       before = p.rows;
@@ -61,7 +52,7 @@ passed_broken ws n rest k p three begins (small, fit, bad) =
       k = k;
       within = omega arith;
       breaks = (small, (λ j less. subst (λ w. FitsAt j w) (same j (omega arith)) (fit j less)), λ f. bad (subst (λ w. FitsAt k w) (sym (same k small)) f));
-      place = ap (λ m. 3 * m + k) (sym p.many);
+      place = place ∙ ap (λ m. 3 * m + k) (sym p.many);
     }
   where
     first3 : (rest : List ℕ) (j : ℕ) → j < 3 → get_or (get_or rest 0 0 ∷ (get_or rest 1 0 ∷ (get_or rest 2 0 ∷ []))) j 0 ≡ get_or rest j 0
@@ -71,28 +62,29 @@ passed_broken ws n rest k p three begins (small, fit, bad) =
     first3 rest (suc (suc (suc j))) h = absurd (let e : ⊥ = omega arith in e)
 
 -- two readings of the same words go row by row: a row here is a row there, since three words are one row's at most
-one_reading : (rows others : List Row) (a b : List ℕ) → AllByRecursion Sound rows → AllByRecursion Sound others → get_or a 0 0 ≡ 0 → get_or b 0 0 ≡ 0
+one_reading : (rows others : List Row) (a b : List ℕ) → All Sound rows → All Sound others → get_or a 0 0 ≡ 0 → get_or b 0 0 ≡ 0
     → writing rows ++ a ≡ writing others ++ b → rows ≡ others
 one_reading [] [] a b i j p q h = refl
 one_reading [] (x ∷ others) a b i j p q h = absurd (let z = ap (λ ws. get_or ws 0 0) h in let k : ⊥ = omega arith in k)
 one_reading (r ∷ rows) [] a b i j p q h = absurd (let z = ap (λ ws. get_or ws 0 0) h in let k : ⊥ = omega arith in k)
-one_reading (r ∷ rows) (x ∷ others) a b (r_in, i) (x_in, j) p q h =
-    let same = same_row r x (writing rows ++ a) (writing others ++ b) r_in x_in h in
-    let more = one_reading rows others a b i j p q same.1 in
+one_reading (r ∷ rows) (x ∷ others) a b i j p q h =
+    let same = same_row r x (writing rows ++ a) (writing others ++ b) (All-head Sound r rows i) (All-head Sound x others j) h in
+    let more = one_reading rows others a b (All-tail Sound r rows i) (All-tail Sound x others j) p q same.1 in
     cc
 
 reads_once : OneReading
 reads_once rows others ws h g = one_reading rows others h.after g.after h.sound g.sound h.ends g.ends (sym h.cut ∙ g.cut)
 
 -- rows and then a broken one are no rows and then an end
-no_break : (rows others : List Row) (a rest : List ℕ) (k : ℕ) → AllByRecursion Sound rows → AllByRecursion Sound others → get_or a 0 0 ≡ 0
+no_break : (rows others : List Row) (a rest : List ℕ) (k : ℕ) → All Sound rows → All Sound others → get_or a 0 0 ≡ 0
     → writing rows ++ a ≡ writing others ++ rest → (get_or rest 0 0 ≡ 0 → ⊥) → BreaksAt rest k → ⊥
 no_break [] [] a rest k i j z h begins br = begins (ap (λ ws. get_or ws 0 0) (sym h) ∙ z)
 no_break [] (x ∷ others) a rest k i j z h begins br = let y = ap (λ ws. get_or ws 0 0) h in omega arith
-no_break (r ∷ rows) [] a rest k (r_in, i) j z h begins br =
-    br.2 (subst (λ ws. FitsAt k (get_or ws k 0)) h (row_fits r (writing rows ++ a) k r_in br.0))
-no_break (r ∷ rows) (x ∷ others) a rest k (r_in, i) (x_in, j) z h begins br =
-    no_break rows others a rest k i j z (same_row r x (writing rows ++ a) (writing others ++ rest) r_in x_in h).1 begins br
+no_break (r ∷ rows) [] a rest k i j z h begins br =
+    br.2 (subst (λ ws. FitsAt k (get_or ws k 0)) h (row_fits r (writing rows ++ a) k (All-head Sound r rows i) br.0))
+no_break (r ∷ rows) (x ∷ others) a rest k i j z h begins br =
+    no_break rows others a rest k (All-tail Sound r rows i) (All-tail Sound x others j) z
+    (same_row r x (writing rows ++ a) (writing others ++ rest) (All-head Sound r rows i) (All-head Sound x others j) h).1 begins br
 
 -- a row breaks at one word first
 same_break : (ws : List ℕ) (j k : ℕ) → BreaksAt ws j → BreaksAt ws k → j ≡ k
@@ -103,62 +95,66 @@ same_break ws j k p q =
     ]
 
 -- the words of a bound do not break their row
-own_whole : (h t s : ℕ) (b : Bound) (k : ℕ) → row_words (row_of b) ≡ h ∷ (t ∷ (s ∷ [])) → BreaksAt (h ∷ (t ∷ (s ∷ []))) k → ⊥
-own_whole h t s b k own (small, fit, bad) = bad (subst (λ ws. FitsAt k (get_or ws k 0)) own (row_fits (row_of b) [] k b.sound small))
+own_whole : (ws : List ℕ) (b : Bound) (k : ℕ) → row_words (row_of b) ≡ ws → BreaksAt ws k → ⊥
+own_whole ws b k own (small, fit, bad) = bad (subst (λ xs. FitsAt k (get_or xs k 0)) own (row_fits (row_of b) [] k b.sound small))
 
 -- three words have one answer
-pub bound_read_once : (h t s : ℕ) (q r : Result Bound WordFault) → BoundRead h t s q → BoundRead h t s r → SameBound q r
-bound_read_once h t s (Ok b) (Ok d) p q = (same_row (row_of b) (row_of d) [] [] b.sound d.sound (p ∙ sym q)).0
-bound_read_once h t s (Ok b) (Err (Length n)) p never = never
-bound_read_once h t s (Ok b) (Err (Word k)) p q = own_whole h t s b k p q
-bound_read_once h t s (Err (Length n)) r never q = absurd never
-bound_read_once h t s (Err (Word j)) (Ok d) p q = own_whole h t s d j q p
-bound_read_once h t s (Err (Word j)) (Err (Length n)) p never = absurd never
-bound_read_once h t s (Err (Word j)) (Err (Word k)) p q = ap (λ n. Word n) (same_break (h ∷ (t ∷ (s ∷ []))) j k p q)
+pub bound_read_once : (ws : List ℕ) (q r : Result Bound WordFault) → BoundRead ws q → BoundRead ws r → SameBound q r
+bound_read_once ws (Ok b) (Ok d) p q = (same_row (row_of b) (row_of d) [] [] b.sound d.sound (p ∙ sym q)).0
+bound_read_once ws (Ok b) (Err (Length n)) p never = never
+bound_read_once ws (Ok b) (Err (Word k)) p q = own_whole ws b k p q
+bound_read_once ws (Err (Length n)) r never q = absurd never
+bound_read_once ws (Err (Word j)) (Ok d) p q = own_whole ws d j q p
+bound_read_once ws (Err (Word j)) (Err (Length n)) p never = absurd never
+bound_read_once ws (Err (Word j)) (Err (Word k)) p q = ap (λ n. Word n) (same_break ws j k p q)
 
-one_fault : (rows others : List Row) (a b : List ℕ) (j k : ℕ) → AllByRecursion Sound rows → AllByRecursion Sound others → writing rows ++ a ≡ writing others ++ b
+one_fault : (rows others : List Row) (a b : List ℕ) (j k : ℕ) → All Sound rows → All Sound others → writing rows ++ a ≡ writing others ++ b
     → BreaksAt a j → BreaksAt b k → 3 * length rows + j ≡ 3 * length others + k
 one_fault [] [] a b j k i i' h p q = ap (λ n. 0 + n) (same_break b j k (subst (λ ws. BreaksAt ws j) h p) q)
-one_fault [] (x ∷ others) a b j k i (x_in, i') h p q =
-    absurd (p.2 (subst (λ ws. FitsAt j (get_or ws j 0)) (sym h) (row_fits x (writing others ++ b) j x_in p.0)))
-one_fault (r ∷ rows) [] a b j k (r_in, i) i' h p q =
-    absurd (q.2 (subst (λ ws. FitsAt k (get_or ws k 0)) h (row_fits r (writing rows ++ a) k r_in q.0)))
-one_fault (r ∷ rows) (x ∷ others) a b j k (r_in, i) (x_in, i') h p q =
-    let e = one_fault rows others a b j k i i' (same_row r x (writing rows ++ a) (writing others ++ b) r_in x_in h).1 p q in omega arith
+one_fault [] (x ∷ others) a b j k i i' h p q =
+    absurd (p.2 (subst (λ ws. FitsAt j (get_or ws j 0)) (sym h) (row_fits x (writing others ++ b) j (All-head Sound x others i') p.0)))
+one_fault (r ∷ rows) [] a b j k i i' h p q =
+    absurd (q.2 (subst (λ ws. FitsAt k (get_or ws k 0)) h (row_fits r (writing rows ++ a) k (All-head Sound r rows i) q.0)))
+one_fault (r ∷ rows) (x ∷ others) a b j k i i' h p q =
+    let same = same_row r x (writing rows ++ a) (writing others ++ b) (All-head Sound r rows i) (All-head Sound x others i') h in
+    let e = one_fault rows others a b j k (All-tail Sound r rows i) (All-tail Sound x others i') same.1 p q in
+    omega arith
 
-one_read : (ws : List ℕ) (q r : Result ℕ ℕ) → RowsRead ws q → RowsRead ws r → q ≡ r
+one_read : (ws : List ℕ) (q r : Result ℕ WordFault) → RowsRead ws q → RowsRead ws r → q ≡ r
 one_read ws (Ok m) (Ok n) (rows, l, h) (others, k, g) = ap (λ x. Ok x) (sym l ∙ (ap length (reads_once rows others ws h g) ∙ k))
-one_read ws (Ok m) (Err p) (rows, l, h) b =
+one_read ws (Ok m) (Err (Length n)) h never = absurd never
+one_read ws (Ok m) (Err (Word p)) (rows, l, h) b =
     absurd (no_break rows b.before h.after b.after b.k h.sound b.sound h.ends (sym h.cut ∙ b.cut) b.begins b.breaks)
-one_read ws (Err p) (Ok m) b (rows, l, h) =
+one_read ws (Err (Length n)) r never g = absurd never
+one_read ws (Err (Word p)) (Ok m) b (rows, l, h) =
     absurd (no_break rows b.before h.after b.after b.k h.sound b.sound h.ends (sym h.cut ∙ b.cut) b.begins b.breaks)
-one_read ws (Err p) (Err q) a b =
-    ap (λ n. Err n) (a.place ∙ (one_fault a.before b.before a.after b.after a.k b.k a.sound b.sound (sym a.cut ∙ b.cut) a.breaks b.breaks ∙ sym b.place))
-
--- a count is no place
-count_or_place : (m p : ℕ) → ◌≡◌ {A = Result ℕ ℕ} (Ok m) (Err p) → ⊥
-count_or_place m p e = let z : ◌≡◌ {A = ℕ} 0 1 = cc in omega arith
+one_read ws (Err (Word p)) (Err (Length n)) h never = absurd never
+one_read ws (Err (Word p)) (Err (Word q)) a b =
+    ap (λ n. Err (Word n)) (a.place ∙ (one_fault a.before b.before a.after b.after a.k b.k a.sound b.sound (sym a.cut ∙ b.cut) a.breaks b.breaks ∙ sym b.place))
 
 one_answer : OneAnswer
-one_answer ws (Ok m) (Ok n) (whole, h) (whole', g) = same_count (one_read (take 196605 ws) (Ok m) (Ok n) h g)
-  where
-    same_count : ◌≡◌ {A = Result ℕ ℕ} (Ok m) (Ok n) → ◌≡◌ {A = Result ℕ WordFault} (Ok m) (Ok n)
-    same_count e = cc
+one_answer ws (Ok m) (Ok n) (whole, h) (whole', g) = one_read (take 196605 ws) (Ok m) (Ok n) h g
 one_answer ws (Ok m) (Err (Length n)) (whole, h) (odd, e) = absurd (odd whole)
-one_answer ws (Ok m) (Err (Word p)) (whole, h) (whole', g) = absurd (count_or_place m p (one_read (take 196605 ws) (Ok m) (Err p) h g))
+one_answer ws (Ok m) (Err (Word p)) (whole, h) (whole', g) = one_read (take 196605 ws) (Ok m) (Err (Word p)) h g
 one_answer ws (Err (Length m)) (Ok n) (odd, e) (whole, h) = absurd (odd whole)
 one_answer ws (Err (Length m)) (Err (Length n)) (odd, e) (odd', e') = ap (λ k. Err (Length k)) (e ∙ sym e')
 one_answer ws (Err (Length m)) (Err (Word p)) (odd, e) (whole, h) = absurd (odd whole)
-one_answer ws (Err (Word p)) (Ok n) (whole, h) (whole', g) = absurd (count_or_place n p (one_read (take 196605 ws) (Ok n) (Err p) g h))
+one_answer ws (Err (Word p)) (Ok n) (whole, h) (whole', g) = one_read (take 196605 ws) (Err (Word p)) (Ok n) h g
 one_answer ws (Err (Word p)) (Err (Length n)) (whole, h) (odd, e) = absurd (odd whole)
-one_answer ws (Err (Word p)) (Err (Word q)) (whole, h) (whole', g) = same_place (one_read (take 196605 ws) (Err p) (Err q) h g)
-  where
-    same_place : ◌≡◌ {A = Result ℕ ℕ} (Err p) (Err q) → ◌≡◌ {A = Result ℕ WordFault} (Err (Word p)) (Err (Word q))
-    same_place e = cc
+one_answer ws (Err (Word p)) (Err (Word q)) (whole, h) (whole', g) = one_read (take 196605 ws) (Err (Word p)) (Err (Word q)) h g
 
 -- the words that are used, of a buffer of any length
-pub used_words : (ws : List ℕ) (u k : ℕ) → u ≡ min (length ws) k → take (u - 0) ws ≡ take k ws
-used_words ws u k e = grind (arith, take_all)
+used_words : (ws : List ℕ) (u k : ℕ) → u ≡ min (length ws) k → take u ws ≡ take k ws
+used_words ws u k used = grind (arith, take_all)
+
+-- the answer to the words that are used is that to the whole buffer
+pub checked : (ws : List ℕ) (u : ℕ) (r : Result ℕ WordFault) → length ws % 3 ≡ 0 → u ≡ min (length ws) 196605 → RowsRead (take u ws) r → Checked ws r
+checked ws u r whole used h = told r (subst (λ xs. RowsRead xs r) (used_words ws u 196605 used) h)
+  where
+    told : (r : Result ℕ WordFault) → RowsRead (take 196605 ws) r → Checked ws r
+    told (Ok n) h = (whole, h)
+    told (Err (Length n)) h = absurd h
+    told (Err (Word p)) h = (whole, h)
 
 writing_holds : WritingHolds
 writing_holds rows sound = (
@@ -203,15 +199,12 @@ law = record {
 
 -- what a bound's own words are answered: one row, and the bound itself
 module _ (b : Bound) (ws : List ℕ) (own : ws ≡ row_words (row_of b)) where
-  abbrev three : List ℕ → List ℕ
-  three ws = get_or ws 0 0 ∷ (get_or ws 1 0 ∷ (get_or ws 2 0 ∷ []))
-
-  pub own_checked : (r : Result ℕ WordFault) → Checked (three ws) r → r ≡ Ok 1
+  pub own_checked : (r : Result ℕ WordFault) → Checked ws r → r ≡ Ok 1
   own_checked r h =
-      one_answer (writing (row_of b ∷ [])) r (Ok 1) (subst (λ ws. Checked (three ws) r) own h) (reads_back (row_of b ∷ []) (b.sound, tt) (omega arith))
+      let sound = All-cons Sound (row_of b) [] b.sound (All-nil Sound) in
+      one_answer (writing (row_of b ∷ [])) r (Ok 1) (subst (λ ws. Checked ws r) own h) (reads_back (row_of b ∷ []) sound (omega arith))
 
-  pub own_read : (r : Result Bound WordFault) → BoundRead (get_or ws 0 0) (get_or ws 1 0) (get_or ws 2 0) r → MatchResult r (λ back. row_of back ≡ row_of b) (λ _. ⊥)
-  own_read (Ok back) h = (same_row (row_of back) (row_of b) [] [] back.sound b.sound (h ∙ ap three own)).0
+  pub own_read : (r : Result Bound WordFault) → BoundRead ws r → MatchResult r (λ back. row_of back ≡ row_of b) (λ _. ⊥)
+  own_read (Ok back) h = (same_row (row_of back) (row_of b) [] [] back.sound b.sound (h ∙ own)).0
   own_read (Err (Length n)) h = h
-  own_read (Err (Word k)) (small, fit, bad) =
-      bad (subst (λ ws. FitsAt k (get_or (three ws) k 0)) (sym own) (row_fits (row_of b) [] k b.sound small))
+  own_read (Err (Word k)) h = own_whole ws b k (sym own) h

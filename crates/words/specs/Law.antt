@@ -1,6 +1,6 @@
 -- The law of house words: one writing, one reading, one answer, and the way there and back. Assumes nothing.
 use Rattle.std.specs.Prelude.{◌≡◌, ℕ, ◌*◌, ◌≤◌, List, ◌∷◌, ◌++◌, length, take, Ok, Result, slice_index}
-use Rattle.std.specs.List.{AllByRecursion}
+use Rattle.std.specs.List.{All}
 use Rattle.bounds.specs.declared.row.Row.{Row}
 use Rattle.bounds.specs.Range.{Sound}
 use Rattle.words.specs.declared.fault.WordFault.{WordFault}
@@ -9,7 +9,7 @@ use Rattle.words.specs.Reading.{Holds, Checked}
 
 -- rows are held by their writing, with or without a zero head and more words after it
 abbrev pub WritingHolds : Type 0
-WritingHolds = (rows : List Row) → AllByRecursion Sound rows → Holds rows (writing rows) × ((more : List ℕ) → Holds rows (writing rows ++ (0 ∷ more)))
+WritingHolds = (rows : List Row) → All Sound rows → Holds rows (writing rows) × ((more : List ℕ) → Holds rows (writing rows ++ (0 ∷ more)))
 
 -- words that hold rows begin with the writing of those rows
 abbrev pub OneWriting : Type 0
@@ -25,12 +25,12 @@ OneAnswer = (ws : List ℕ) (q r : Result ℕ WordFault) → Checked ws q → Ch
 
 -- the check of the writing of at most 65,535 rows of bounds answers their number
 abbrev pub ReadsBack : Type 0
-ReadsBack = (rows : List Row) → AllByRecursion Sound rows → length rows ≤ 65535 → Checked (writing rows) (Ok (length rows))
+ReadsBack = (rows : List Row) → All Sound rows → length rows ≤ 65535 → Checked (writing rows) (Ok (length rows))
 
 -- words that are accepted are, up to their end, the writing of the rows found: there the words end, or a zero head stands
 abbrev pub AcceptedIsWritten : Type 0
 AcceptedIsWritten = (ws : List ℕ) (n : ℕ) → Checked ws (Ok n)
-    → (rows : List Row) × AllByRecursion Sound rows × (length rows ≡ n) × (n ≤ 65535) × (take (3 * n) ws ≡ writing rows) × (slice_index (take 196605 ws) (3 * n) ≡ 0)
+    → (rows : List Row) × All Sound rows × (length rows ≡ n) × (n ≤ 65535) × (take (3 * n) ws ≡ writing rows) × (slice_index (take 196605 ws) (3 * n) ≡ 0)
 
 pub record Law : Type 0 where
   pub writing_holds : WritingHolds

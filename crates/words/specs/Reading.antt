@@ -1,7 +1,7 @@
 -- What words mean: the rows that they hold, or the first word that breaks its row. A reading is told by the writing
 -- alone, so there is no second definition of how a word is taken apart. Assumes nothing.
-use Rattle.std.specs.Prelude.{◌≡◌, ℕ, zero, suc, ◌+◌, ◌*◌, ◌%◌, ◌<◌, ◌≤◌, List, [], ◌∷◌, ◌++◌, length, take, ℤ, Ok, Err, Result, ◌≢◌, slice_index, slice_index_or}
-use Rattle.std.specs.List.{AllByRecursion}
+use Rattle.std.specs.Prelude.{◌≡◌, ℕ, zero, suc, ◌+◌, ◌*◌, ◌%◌, ◌<◌, ◌≤◌, List, ◌++◌, length, take, ℤ, Ok, Err, Result, ◌≢◌, slice_index, slice_index_or}
+use Rattle.std.specs.List.{All}
 use Rattle.bounds.specs.declared.bound.Bound.{Bound}
 use Rattle.bounds.specs.declared.row.Row.{Row}
 use Rattle.bounds.specs.Making.{row_of}
@@ -28,20 +28,21 @@ FitsAt (suc (suc k)) w = IsPart 3 w
 abbrev pub BreaksAt : List ℕ → ℕ → Type 0
 BreaksAt ws k = (k < 3) × ((j : ℕ) → j < k → FitsAt j (slice_index ws j)) × (FitsAt k (slice_index ws k) → ⊥)
 
--- the answer to one row of three words: the bound that has them, or the place of the first that breaks the row
-abbrev pub RowRead : ℕ → ℕ → ℕ → Result Bound ℕ → Type 0
-RowRead head t s (Ok b) = row_words (row_of b) ≡ head ∷ (t ∷ (s ∷ []))
-RowRead head t s (Err k) = BreaksAt (head ∷ (t ∷ (s ∷ []))) k
+-- the answer to three words: the bound that has them, or the place of the first that breaks the row
+abbrev pub BoundRead : List ℕ → Result Bound WordFault → Type 0
+BoundRead ws (Ok b) = row_words (row_of b) ≡ ws
+BoundRead ws (Err (Length n)) = ⊥
+BoundRead ws (Err (Word k)) = BreaksAt ws k
 
--- the same answer, the place told as a fault
-abbrev pub BoundRead : ℕ → ℕ → ℕ → Result Bound WordFault → Type 0
-BoundRead head t s (Ok b) = RowRead head t s (Ok b)
-BoundRead head t s (Err (Length n)) = ⊥
-BoundRead head t s (Err (Word k)) = RowRead head t s (Err k)
+-- the same answer, where the first of the three words is at this place
+abbrev pub RowRead : ℕ → List ℕ → Result Bound WordFault → Type 0
+RowRead first ws (Ok b) = row_words (row_of b) ≡ ws
+RowRead first ws (Err (Length n)) = ⊥
+RowRead first ws (Err (Word p)) = (k : ℕ) × (p ≡ first + k) × BreaksAt ws k
 
 -- the words hold just these rows: they begin with the rows' writing, and then comes no word or a zero head
 pub record Holds (rows : List Row) (ws : List ℕ) : Type 0 where
-  pub sound : AllByRecursion Sound rows
+  pub sound : All Sound rows
   pub after : List ℕ
   pub cut : ws ≡ writing rows ++ after
   pub ends : slice_index_or after 0 0 ≡ 0
@@ -49,7 +50,7 @@ pub record Holds (rows : List Row) (ws : List ℕ) : Type 0 where
 -- after some rows comes one that does not end them, and the word at place p is the first that breaks it
 pub record Breaks (ws : List ℕ) (p : ℕ) : Type 0 where
   pub before : List Row
-  pub sound : AllByRecursion Sound before
+  pub sound : All Sound before
   pub after : List ℕ
   pub cut : ws ≡ writing before ++ after
   pub begins : slice_index_or after 0 0 ≡ 0 → ⊥
@@ -59,12 +60,13 @@ pub record Breaks (ws : List ℕ) (p : ℕ) : Type 0 where
   pub place : p ≡ 3 * length before + k
 
 -- the answer to whole rows of words: how many rows they hold, or where the first broken one breaks
-abbrev pub RowsRead : List ℕ → Result ℕ ℕ → Type 0
+abbrev pub RowsRead : List ℕ → Result ℕ WordFault → Type 0
 RowsRead ws (Ok n) = (rows : List Row) × (length rows ≡ n) × Holds rows ws
-RowsRead ws (Err p) = Breaks ws p
+RowsRead ws (Err (Length n)) = ⊥
+RowsRead ws (Err (Word p)) = Breaks ws p
 
 -- the answer to a buffer: its length where that is no multiple of three, and else that to its first 65,535 rows
 abbrev pub Checked : List ℕ → Result ℕ WordFault → Type 0
 Checked ws (Ok n) = (length ws % 3 ≡ 0) × RowsRead (take 196605 ws) (Ok n)
 Checked ws (Err (Length n)) = (length ws % 3 ≢ 0) × (n ≡ length ws)
-Checked ws (Err (Word p)) = (length ws % 3 ≡ 0) × RowsRead (take 196605 ws) (Err p)
+Checked ws (Err (Word p)) = (length ws % 3 ≡ 0) × RowsRead (take 196605 ws) (Err (Word p))

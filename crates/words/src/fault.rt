@@ -1,7 +1,9 @@
-ghost use Rattle.std.specs.Prelude.{◌≡◌};
+ghost use Rattle.std.specs.Prelude.{◌≡◌, Some};
 ghost use Rattle.words.specs.Faults.{fault_of, reason_of};
 
 use faults::{Fault, Layer};
+use std::error::Error;
+use std::fmt;
 
 // Why words are refused.
 #[derive(Clone, Copy, PartialEq, Eq, Debug)]
@@ -12,12 +14,12 @@ pub enum WordFault {
     Word { place: u64 },
 }
 
-impl WordFault {
-    // Fault 13 of layer B, at the length or at the word.
-    pub fn fault(self) -> Fault
-        ensures { result ≡ fault_of self }
-    {
-        let place = match self {
+// Fault 13 of layer B, at the length or at the word.
+impl From<WordFault> for Fault {
+    ghost from_gives = { λ e r. r ≡ fault_of e };
+
+    fn from(fault: WordFault) -> Fault {
+        let place = match fault {
             WordFault::Length { words } => words,
             WordFault::Word { place } => place,
         };
@@ -27,14 +29,18 @@ impl WordFault {
             place,
         }
     }
+}
 
-    // What is wrong, in words.
-    pub fn reason(self) -> &'static str
-        ensures { result.now ≡ reason_of self }
-    {
-        match self {
+// What is wrong, in words.
+impl fmt::Display for WordFault {
+    ghost output = { λ e. Some (reason_of e) };
+
+    fn fmt<W: fmt::Write>(&self, f: &mut fmt::Formatter<W>) -> fmt::Result {
+        f.write_str(match self {
             WordFault::Length { words: _ } => "the number of words is no multiple of three",
             WordFault::Word { place: _ } => "the word breaks its row",
-        }
+        })
     }
 }
+
+impl Error for WordFault {}

@@ -1,9 +1,11 @@
 // House words: three 32-bit words to a bound, and the check of a buffer of them.
 #![tactic(auto)]
 
+pub mod bound_words;
 pub mod fault;
-mod pack;
 pub mod rows;
+mod tag;
 
+pub use bound_words::BoundWords;
 pub use fault::WordFault;
-pub use rows::{bound_of, check, round_trip, words_of};
+pub use rows::{check, round_trip};

@@ -11,8 +11,9 @@ const GREATEST_POINT: i64 = 4_095;
 
 const GREATEST_PART: i64 = 500_000_000;
 
+// `point` and `part` stay two: one function of a range answers an i64, and then each cast of `new` needs a proof of its own by hand.
 fn point(x: i64) -> Option<u16>
-    ensures { MatchOption result (Point x → ⊥) (λ p. (pos p ≡ x) × Point x) }
+    ensures { MatchOption result (¬ Point x) (λ p. (pos p ≡ x) × Point x) }
 {
     if 0 <= x && x <= GREATEST_POINT {
         Some(x as u16)
@@ -22,7 +23,7 @@ fn point(x: i64) -> Option<u16>
 }
 
 fn part(x: i64) -> Option<i32>
-    ensures { MatchOption result (Part x → ⊥) (λ p. (p ≡ x) × Part x) }
+    ensures { MatchOption result (¬ Part x) (λ p. (p ≡ x) × Part x) }
 {
     if -GREATEST_PART <= x && x <= GREATEST_PART {
         Some(x as i32)
@@ -45,23 +46,27 @@ impl Bound {
         })
     }
 
-    // The bound that a table's row stands for, or the first of its numbers that is out of range.
-    pub fn from_row(row: Row) -> Result<Bound, BoundFault>
-        ensures { Made (pos row.left) (pos row.right) row.t row.s result }
-    {
-        Bound::new(
-            i64::from(row.left),
-            i64::from(row.right),
-            i64::from(row.t),
-            i64::from(row.s),
-        )
-    }
-
     // The four numbers of the bound, all in range.
     pub fn row(self) -> Row
         ensures value { result ≡ row_of self }
         ensures range { Sound result }
     {
         self.row
+    }
+}
+
+// The bound that a table's row stands for, or the first of its numbers that is out of range.
+impl TryFrom<Row> for Bound {
+    type Error = BoundFault;
+
+    ghost try_from_gives = { λ row made. Made (pos row.left) (pos row.right) row.t row.s made };
+
+    fn try_from(row: Row) -> Result<Bound, BoundFault> {
+        Bound::new(
+            i64::from(row.left),
+            i64::from(row.right),
+            i64::from(row.t),
+            i64::from(row.s),
+        )
     }
 }
