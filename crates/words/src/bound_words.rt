@@ -41,7 +41,7 @@ pub(crate) fn read_row(first: u64, words: BoundWords) -> Result<Bound, WordFault
     let (left, right) = points(head).ok_or(WordFault::Word { place: first })?;
     let t = Tag::T.part(t).ok_or(WordFault::Word { place: first + 1 })?;
     let s = Tag::S.part(s).ok_or(WordFault::Word { place: first + 2 })?;
-    Ok(Bound::from_row(Row { left, right, t, s }).unwrap())
+    Ok(Bound::try_from(Row { left, right, t, s }).unwrap())
 }
 
 // The bound of three words, or the first of them that breaks the row.
