@@ -3,7 +3,6 @@ use Rattle.std.proofs.Common.{◌≡◌, ℕ, zero, suc, ◌+◌, ◌-◌, ◌*�
 use Rattle.std.proofs.Math.Seq.{take-add}
 use Rattle.std.proofs.lemmas.List.FromFn.{length-map-range_with_len, map-range_with_len_more}
 use Rattle.std.proofs.lemmas.List.{append-nil, flat_map_more, get_or-drop, get_or_past, get_or-take, length-append, length_push, length-take, length-take-le, take-append-drop, take-take}
-use Rattle.std.proofs.lemmas.List.Elements.{recursion_from_All}
 use Rattle.std.proofs.lemmas.Bool.{cases_lt}
 use Rattle.bounds.specs.declared.bound.Bound.{Bound}
 use Rattle.bounds.specs.declared.row.Row.{Row}
@@ -77,7 +76,7 @@ module _ (ws : List ℕ) (whole : length ws % 3 ≡ 0) where
       = take-take (3 * n) 196605 vs (omega arith) ∙ bounds_written vs n v.bounds ∙ ap writing (sym (all_rows vs v.counts.fixed v.counts.added)) in
       record {
         holds = record {
-          sound = recursion_from_All Sound _ (words_proper vs v.counts v.bounds).sound;
+          sound = (words_proper vs v.counts v.bounds).sound;
           after = drop (3 * n) used;
           cut = sym (take-append-drop (3 * n) used) ∙ ap (λ l. l ++ drop (3 * n) used) front;
           ends = get_or-drop (3 * n) used 0 0 ∙ ap (λ k. get_or used k 0) (omega arith) ∙ i.ends;

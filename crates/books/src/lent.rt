@@ -7,7 +7,7 @@ use crate::book::Book;
 use crate::fault::BookFault;
 use crate::lent::counts::Counts;
 use bounds::Bound;
-use words::{bound_of, words_of};
+use words::BoundWords;
 
 mod counts;
 
@@ -26,8 +26,7 @@ fn bound_in(row: [u32; 3]) -> Bound
     requires { OfBound row }
     ensures { row_of result ≡ taken_apart row }
 {
-    let [head, t, s] = row;
-    bound_of(head, t, s).unwrap()
+    Bound::try_from(BoundWords(row)).unwrap()
 }
 
 // Puts a zero head after `n` rows, where there is a place for it.
@@ -46,7 +45,7 @@ fn put_bound(words: &mut [u32], places: usize, n: usize, bound: Bound)
     requires free { n < places }
     ensures { words.new ≡ row_put places words.old n (row_of bound) }
 {
-    words[3 * n..3 * n + 3].copy_from_slice(&words_of(bound));
+    words[3 * n..3 * n + 3].copy_from_slice(&BoundWords::from(bound).0);
     put_end(words, places, n + 1);
 }
 

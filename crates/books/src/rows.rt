@@ -15,14 +15,6 @@ pub struct Rows<const N: usize> {
     ghost sound: { All Sound rows.items },
 }
 
-// The bound of a row that is known to be in range.
-fn sound_bound(row: Row) -> Bound
-    requires { Sound row }
-    ensures { row_of result ≡ row }
-{
-    Bound::from_row(row).unwrap()
-}
-
 impl<const N: usize> Rows<N> {
     ghost use Rattle.books.specs.Listed.{listed};
 
@@ -44,7 +36,7 @@ impl<const N: usize> Rows<N> {
     pub(crate) fn read(&self, i: usize) -> Option<Bound>
         ensures { option_map row_of result ≡ slice_get (listed self.now) i }
     {
-        self.rows.get(i).map(|row| sound_bound(*row))
+        self.rows.get(i).map(|row| Bound::try_from(*row).unwrap())
     }
 
     pub(crate) fn push(&mut self, bound: Bound)
