@@ -1,5 +1,5 @@
 -- The rows in a list of words: rows that stay, a row that is put in, and rows as chunks and as a writing. Assumes nothing.
-use Rattle.std.proofs.Common.{◌≡◌, ℕ, zero, suc, ◌+◌, ◌*◌, ◌/◌, ◌<◌, ◌≤◌, List, [], ◌∷◌, ◌++◌, length, get_or, take, drop, None, Some, sym, refl, ap, ◌∙◌, subst, add-zero, zero-add, arith, rules}
+use Rattle.std.proofs.Common.{◌≡◌, ℕ, zero, suc, ◌+◌, ◌*◌, ◌/◌, ◌<◌, ◌≤◌, List, ◌∷◌, ◌++◌, length, get_or, take, drop, None, Some, sym, refl, ap, ◌∙◌, subst, add-zero, zero-add, arith, rules}
 use Rattle.std.proofs.Math.Seq.{drop-append_seam}
 use Rattle.std.proofs.lemmas.List.{drop-drop, drop-take, get_or-take, length-take, length-take-le, take-take}
 use Rattle.std.proofs.lemmas.List.FromFn.{length-map-range_with_len, get_or-map-range_with_len}
@@ -8,7 +8,7 @@ use Rattle.std.specs.List.{slice_get}
 use Rattle.std.specs.Simd.{first_chunks}
 use Rattle.bounds.specs.declared.row.Row.{Row}
 use Rattle.bounds.specs.Range.{Sound}
-use Rattle.words.specs.Words.{row_words, writing}
+use Rattle.words.specs.Words.{row_words}
 use Rattle.books.specs.Decoding.{taken_apart, OfBound, words_at, row_at, rows_from, BoundsIn}
 
 -- a bound's words are read as the bound

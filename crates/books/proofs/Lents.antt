@@ -1,5 +1,5 @@
 -- What adding and cutting make of the rows in lent words, and which rows an accepted buffer holds. Assumes nothing.
-use Rattle.std.proofs.Common.{◌≡◌, ℕ, zero, suc, ◌+◌, ◌-◌, ◌*◌, ◌<◌, ◌≤◌, ◌⊎◌, List, [], ◌∷◌, ◌++◌, length, get_or, take, drop, Ok, Err, Result, sym, refl, ap, ◌∙◌, subst, inl, inr, arith}
+use Rattle.std.proofs.Common.{◌≡◌, ℕ, zero, suc, ◌+◌, ◌-◌, ◌*◌, ◌<◌, ◌≤◌, ◌⊎◌, List, [], ◌∷◌, ◌++◌, length, get_or, take, drop, Ok, Result, sym, refl, ap, ◌∙◌, subst, inl, inr, arith}
 use Rattle.std.proofs.lemmas.List.{length-take, length-append, take-take}
 use Rattle.std.proofs.lemmas.List.FromFn.{fill_by_all, map-range_with_len_more, take-map-range_with_len, length-map-range_with_len}
 use Rattle.std.proofs.lemmas.Bool.{cases_lt}
@@ -16,7 +16,7 @@ use Rattle.books.specs.Decoding.{taken_apart, OfBound, words_at, row_at, rows_fr
 use Rattle.books.specs.Lent.{row_places, Opens, Opened, ended, row_put}
 use Rattle.books.proofs.Decodings.{own_row, own_words, same_words, same_bounds, same_rows, words_there}
 use Rattle.books.proofs.Meanings.{same_meaning}
-use Rattle.books.proofs.Replaced.{take-ended, length-row_put, take-row_put, take_with-row_put}
+use Rattle.books.proofs.Replaced.{take-ended, take-row_put, take_with-row_put}
 
 -- one row more after n rows, and the end after it
 module _ (ws vs : List ℕ) (p n : ℕ) (row : Row) (room : 3 * p ≤ length ws) (free : n < p) (made : vs ≡ row_put p ws n row) where

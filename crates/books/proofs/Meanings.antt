@@ -1,13 +1,11 @@
 -- What adding and cutting make of a table and of a trial. Assumes nothing.
-use Rattle.std.proofs.Common.{◌≡◌, ℕ, ◌+◌, ◌-◌, ◌<◌, ◌≤◌, Bool, true, false, List, [], ◌∷◌, ◌++◌, length, take, Ok, Err, Result, sym, refl, ap, ◌∙◌, arith}
-use Rattle.std.proofs.lemmas.List.{length_push, length-take, take_all, take-take}
-use Rattle.bounds.specs.declared.row.Row.{Row}
+use Rattle.std.proofs.Common.{◌≡◌, Bool, true, false, Ok, Err, Result, refl, ap, ◌∙◌}
 use Rattle.bounds.specs.Making.{row_of}
 use Rattle.books.specs.declared.fault.BookFault.{BookFault}
 use Rattle.books.specs.declared.fault.BookFault.TheVariants.{Full}
 use Rattle.books.specs.Calls.{Adding, Cutting, still, adding, cutting, Keeps}
-use Rattle.books.specs.Meaning.{Meaning, with_bounds, cut_to}
-use Rattle.books.specs.Layers.{table_of, trial_over, trial_places, BelowSame}
+use Rattle.books.specs.Meaning.{Meaning}
+use Rattle.books.specs.Layers.{BelowSame}
 
 -- a meaning is its three parts
 pub same_meaning : (m n : Meaning) → m.fixed ≡ n.fixed → m.added ≡ n.added → m.free ≡ n.free → m ≡ n

@@ -1,7 +1,7 @@
 -- Words put in the place of others: what stands before them, there and after. Assumes nothing.
-use Rattle.std.proofs.Common.{◌≡◌, ℕ, ◌+◌, ◌-◌, ◌*◌, ◌<◌, ◌≤◌, ltb, List, [], ◌∷◌, ◌++◌, length, get_or, take, drop, set, sym, refl, ap, ◌∙◌, add-one, arith}
+use Rattle.std.proofs.Common.{◌≡◌, ℕ, ◌+◌, ◌-◌, ◌*◌, ◌<◌, ◌≤◌, ltb, List, [], ◌∷◌, ◌++◌, length, get_or, take, drop, sym, refl, ap, ◌∙◌, arith}
 use borrow.Rule.Slice.PartMut.{put_mid}
-use Rattle.std.proofs.lemmas.List.{length-append, length-take, length-take-le, length-drop, get_or-append_right, set_split, drop-drop}
+use Rattle.std.proofs.lemmas.List.{length-append, length-take, length-take-le, length-drop, get_or-append_right, drop-drop}
 use Rattle.std.proofs.lemmas.Slice.{take-put_mid, take-put_mid_below, drop-put_mid}
 use Rattle.std.proofs.lemmas.Bool.{cond_both, cond-true, ltb-true, lt-ltb}
 use Rattle.bounds.specs.declared.row.Row.{Row}
@@ -24,10 +24,6 @@ module _ (ws new : List ℕ) (i : ℕ) (inside : i + length new ≤ length ws) w
 
   pub drop-replaced : (k : ℕ) → i + length new ≤ k → drop k (replaced ws i new) ≡ drop k ws
   drop-replaced k h = ap (drop k) (sym mid) ∙ drop-put_mid i (length new) ws new k h (omega arith) refl
-
--- one word
-pub set-replaced : (ws : List ℕ) (i x : ℕ) → i < length ws → set ws i x ≡ replaced ws i (x ∷ [])
-set-replaced ws i x h = set_split ws i x h ∙ ap (λ k. take i ws ++ x ∷ drop k ws) (sym (add-one i))
 
 -- the end mark leaves the length, and the words before it
 module _ (places : ℕ) (ws : List ℕ) (n : ℕ) (room : 3 * places ≤ length ws) where

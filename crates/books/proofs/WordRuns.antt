@@ -2,16 +2,13 @@
 use Rattle.std.proofs.Common.{◌≡◌, ℕ, zero, suc, ◌+◌, ◌-◌, ◌*◌, ◌%◌, ◌<◌, ◌≤◌, Bool, true, false, ◌⊎◌, List, [], ◌∷◌, ◌++◌, length, get_or, take, drop, Ok, Err, Result, sym, refl, ap, ◌∙◌, subst, inl, inr, arith}
 use Rattle.std.proofs.Math.Seq.{take-add}
 use Rattle.std.proofs.lemmas.List.FromFn.{length-map-range_with_len, map-range_with_len_more}
-use Rattle.std.proofs.lemmas.List.{append-nil, flat_map_more, get_or-drop, get_or_past, get_or-take, length-append, length_push, length-take, length-take-le, take-append-drop, take-take}
+use Rattle.std.proofs.lemmas.List.{flat_map_more, get_or-drop, get_or_past, get_or-take, length_push, length-take, length-take-le, take-append-drop, take-take}
 use Rattle.std.proofs.lemmas.Bool.{cases_lt}
 use Rattle.bounds.specs.declared.bound.Bound.{Bound}
-use Rattle.bounds.specs.declared.row.Row.{Row}
 use Rattle.bounds.specs.Making.{row_of}
-use Rattle.bounds.specs.Range.{Sound}
 use Rattle.words.specs.Words.{row_words, writing}
 use Rattle.words.specs.Reading.{Checked}
 use Rattle.words.proofs.Readings.{law}
-use Rattle.words.proofs.Writings.{length-writing}
 use Rattle.books.specs.declared.fault.BookFault.{BookFault}
 use Rattle.books.specs.declared.fault.BookFault.TheVariants.{Full}
 use Rattle.books.specs.declared.lent.WordBook.{WordBook}
@@ -23,7 +20,7 @@ use Rattle.books.specs.Meaning.{bounds_of, with_bounds, cut_to}
 use Rattle.books.specs.WordLaws.{words_proper}
 use Rattle.books.proofs.Decodings.{all_rows}
 use Rattle.books.proofs.Lents.{found_few}
-use Rattle.books.proofs.Replaced.{length-ended, length-mid, drop-ended, zero_ended, length-row_put, drop-row_put, room_mid}
+use Rattle.books.proofs.Replaced.{length-ended, length-mid, drop-ended, zero_ended, length-row_put, drop-row_put}
 
 -- the counts of a book, by its meaning
 fixed_is : (v : WordBook) → v.counts.fixed ≡ length (meaning_of v).fixed

@@ -15,7 +15,14 @@ pub struct Counts {
 
 impl Counts {
     ghost use Rattle.books.specs.Decoding.{BoundsIn};
-    ghost use Rattle.books.specs.Lent.{Opened, rows_in};
+    ghost use Rattle.books.specs.Lent.{Opened, row_places, rows_in};
+
+    // How many rows so many words have place for.
+    fn places_in(words: usize) -> usize
+        ensures { result ≡ row_places words }
+    {
+        (words / 3).min(MOST)
+    }
 
     // The counts over words that are just opened: no row and no place where the check refuses them.
     pub(super) fn found(words: &[u32]) -> Counts
@@ -31,7 +38,7 @@ impl Counts {
             };
         };
         Counts {
-            places: (words.len() / 3).min(MOST),
+            places: Counts::places_in(words.len()),
             fixed,
             added: 0,
         }

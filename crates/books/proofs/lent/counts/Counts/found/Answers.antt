@@ -16,4 +16,4 @@ returns-clause-bounds c = found_bounds c.args.words.now c.in-Ok.fixed _ c.in-Ok.
 pub returns-clause-opened : goal.returns-clause-opened
 returns-clause-opened c =
     let ws = c.args.words.now in
-    opens_once ws (Ok c.in-Ok.fixed) _ c.in-Ok.ensures (opens_rows ws c.in-Ok.fixed c.min.result c.in-Ok.ensures (omega arith))
+    opens_once ws (Ok c.in-Ok.fixed) _ c.in-Ok.ensures (opens_rows ws c.in-Ok.fixed c.places_in.result c.in-Ok.ensures c.places_in.ensures)
