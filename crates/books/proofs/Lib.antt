@@ -1,7 +1,6 @@
 pub mod Bulks
 pub mod Decodings
-pub mod Lents
-pub mod Lists
 pub mod Meanings
 pub mod Replaced
+pub mod Lents
 pub mod WordRuns

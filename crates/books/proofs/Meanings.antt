@@ -1,42 +1,15 @@
 -- What adding and cutting make of a table and of a trial. Assumes nothing.
-use Rattle.std.proofs.Common.{◌≡◌, ℕ, ◌+◌, ◌-◌, ◌<◌, ◌≤◌, Bool, true, false, List, [], ◌∷◌, ◌++◌, length, take, Ok, Err, Result, sym, refl, ap, ◌∙◌, arith}
-use Rattle.std.proofs.lemmas.List.{length_push, length-take, take_all, take-take}
-use Rattle.bounds.specs.declared.row.Row.{Row}
+use Rattle.std.proofs.Common.{◌≡◌, Bool, true, false, Ok, Err, Result, refl, ap, ◌∙◌}
 use Rattle.bounds.specs.Making.{row_of}
 use Rattle.books.specs.declared.fault.BookFault.{BookFault}
 use Rattle.books.specs.declared.fault.BookFault.TheVariants.{Full}
 use Rattle.books.specs.Calls.{Adding, Cutting, still, adding, cutting, Keeps}
-use Rattle.books.specs.Meaning.{Meaning, with_bounds, cut_to}
-use Rattle.books.specs.Layers.{table_of, trial_over, trial_places, BelowSame}
+use Rattle.books.specs.Meaning.{Meaning}
+use Rattle.books.specs.Layers.{BelowSame}
 
 -- a meaning is its three parts
 pub same_meaning : (m n : Meaning) → m.fixed ≡ n.fixed → m.added ≡ n.added → m.free ≡ n.free → m ≡ n
 same_meaning m n f a r = λ k. record { fixed = f k; added = a k; free = r k }
-
--- rows before and after a push or a cut
-module _ (xs ys : List Row) where
-  pub table_push : (row : Row) → ys ≡ xs ++ row ∷ [] → table_of ys ≡ with_bounds (table_of xs) (row ∷ [])
-  table_push row e = same_meaning _ _ refl e (omega (arith, ap length e ∙ length_push xs row))
-
-  pub table_cut : (k : ℕ) → length xs ≤ 1024 → k ≤ length xs → ys ≡ take k xs → table_of ys ≡ cut_to (table_of xs) k
-  table_cut k few h e = same_meaning _ _ refl e (omega (arith, ap length e ∙ length-take k xs))
-
-  module _ (below : Meaning) where
-    pub trial_push : (row : Row) → 0 < trial_places below - length xs → ys ≡ xs ++ row ∷ []
-        → trial_over below ys ≡ with_bounds (trial_over below xs) (row ∷ [])
-    trial_push row h e =
-        let n = trial_places below in
-        let long : length ys ≡ length xs + 1 = ap length e ∙ length_push xs row in
-        let all : take n ys ≡ ys = take_all n ys (omega arith) in
-        let old : take n xs ≡ xs = take_all n xs (omega arith) in
-        same_meaning _ _ refl (all ∙ e ∙ ap (λ l. l ++ row ∷ []) (sym old)) (omega arith)
-
-    pub trial_cut : (k : ℕ) → k ≤ length (take (trial_places below) xs) → ys ≡ take k xs → trial_over below ys ≡ cut_to (trial_over below xs) k
-    trial_cut k h e =
-        let n = trial_places below in
-        let long : length ys ≡ k = ap length e ∙ length-take k xs ∙ omega (arith, length-take n xs) in
-        let all : take n ys ≡ ys = take_all n ys (omega (arith, length-take n xs)) in
-        same_meaning _ _ refl (all ∙ e ∙ sym (take-take k n xs (omega (arith, length-take n xs)))) (omega (arith, length-take n xs))
 
 -- a part that each accepted call keeps is kept by every sequence of calls
 module _ {S T : Type 0} (meaning : S → Meaning) (part : S → T) where

@@ -1,36 +1,19 @@
--- Words put in the place of others: what stands where after it. Assumes nothing.
-use Rattle.std.proofs.Common.{◌≡◌, ℕ, ◌+◌, ◌-◌, ◌*◌, ◌<◌, ◌≤◌, ltb, List, [], ◌∷◌, ◌++◌, length, get_or, take, drop, set, sym, refl, ap, ◌∙◌, add-one, arith}
+-- Words put in the place of others: what stands before them, there and after. Assumes nothing.
+use Rattle.std.proofs.Common.{◌≡◌, ℕ, ◌+◌, ◌-◌, ◌*◌, ◌<◌, ◌≤◌, ltb, List, [], ◌∷◌, ◌++◌, length, get_or, take, drop, sym, refl, ap, ◌∙◌, arith}
 use borrow.Rule.Slice.PartMut.{put_mid}
-use Rattle.std.proofs.lemmas.List.{length-append, length-take, length-take-le, length-drop, get_or_append_left, get_or-append_right, get_or-take, set_split, drop-drop}
+use Rattle.std.proofs.lemmas.List.{length-append, length-take, length-take-le, length-drop, get_or-append_right, drop-drop}
 use Rattle.std.proofs.lemmas.Slice.{take-put_mid, take-put_mid_below, drop-put_mid}
 use Rattle.std.proofs.lemmas.Bool.{cond_both, cond-true, ltb-true, lt-ltb}
-use Rattle.books.specs.Lent.{replaced, ended}
-
--- a copy to a part of the words
-pub copy_replaced : (ws ys new : List ℕ) (i k : ℕ) → ys ≡ new → k ≡ length new → put_mid i k ws ys ≡ replaced ws i new
-copy_replaced ws ys new i k e long =
-    ap (λ y. take i ws ++ (y ++ drop k (drop i ws))) e ∙ ap (λ l. take i ws ++ (new ++ l)) (drop-drop k i ws ∙ ap (λ n. drop (i + n) ws) long)
+use Rattle.bounds.specs.declared.row.Row.{Row}
+use Rattle.words.specs.Words.{row_words}
+use Rattle.books.specs.Lent.{replaced, ended, row_put}
 
 module _ (ws new : List ℕ) (i : ℕ) (inside : i + length new ≤ length ws) where
   pub length-replaced : length (replaced ws i new) ≡ length ws
   length-replaced = simp (length-append, length-take, length-drop) (omega arith)
 
-  -- a word before them is as it was
-  pub before_replaced : (j : ℕ) → j < i → get_or (replaced ws i new) j 0 ≡ get_or ws j 0
-  before_replaced j h =
-      let long : length (take i ws) ≡ i = length-take-le i ws (omega arith) in
-      get_or_append_left (take i ws) _ 0 j (omega arith) ∙ get_or-take i ws j 0 h
-
-  -- the new words stand there
-  pub at_replaced : (j k : ℕ) → i + j ≡ k → j < length new → get_or (replaced ws i new) k 0 ≡ get_or new j 0
-  at_replaced j k e h =
-      let long : length (take i ws) ≡ i = length-take-le i ws (omega arith) in
-      let less : k - i ≡ j = omega arith in
-      get_or-append_right (take i ws) _ i k 0 long (omega arith) ∙ ap (λ x. get_or (new ++ drop (i + length new) ws) x 0) less
-      ∙ get_or_append_left new _ 0 j h
-
   mid : put_mid i (length new) ws new ≡ replaced ws i new
-  mid = copy_replaced ws new new i (length new) refl refl
+  mid = ap (λ l. take i ws ++ (new ++ l)) (drop-drop (length new) i ws)
 
   -- what comes before, with the new words, and what comes after
   pub take-replaced : (k : ℕ) → k ≡ i + length new → take k (replaced ws i new) ≡ take i ws ++ new
@@ -42,10 +25,6 @@ module _ (ws new : List ℕ) (i : ℕ) (inside : i + length new ≤ length ws) w
   pub drop-replaced : (k : ℕ) → i + length new ≤ k → drop k (replaced ws i new) ≡ drop k ws
   drop-replaced k h = ap (drop k) (sym mid) ∙ drop-put_mid i (length new) ws new k h (omega arith) refl
 
--- one word
-pub set-replaced : (ws : List ℕ) (i x : ℕ) → i < length ws → set ws i x ≡ replaced ws i (x ∷ [])
-set-replaced ws i x h = set_split ws i x h ∙ ap (λ k. take i ws ++ x ∷ drop k ws) (sym (add-one i))
-
 -- the end mark leaves the length, and the words before it
 module _ (places : ℕ) (ws : List ℕ) (n : ℕ) (room : 3 * places ≤ length ws) where
   inside : n < places → 3 * n + 1 ≤ length ws
@@ -54,11 +33,8 @@ module _ (places : ℕ) (ws : List ℕ) (n : ℕ) (room : 3 * places ≤ length 
   pub length-ended : length (ended places ws n) ≡ length ws
   length-ended = cond_both (ltb n places) _ ws (λ vs. length vs ≡ length ws) (λ e. length-replaced ws (0 ∷ []) (3 * n) (inside (ltb-true n places e))) (λ e. refl)
 
-  pub before_ended : (j : ℕ) → j < 3 * n → get_or (ended places ws n) j 0 ≡ get_or ws j 0
-  before_ended j h = cond_both (ltb n places) _ ws (λ vs. get_or vs j 0 ≡ get_or ws j 0) (λ e. before_replaced ws (0 ∷ []) (3 * n) (inside (ltb-true n places e)) j h) (λ e. refl)
-
-  pub take_ended : (k : ℕ) → k ≤ 3 * n → take k (ended places ws n) ≡ take k ws
-  take_ended k h = cond_both (ltb n places) _ ws (λ vs. take k vs ≡ take k ws) (λ e. take_before-replaced ws (0 ∷ []) (3 * n) (inside (ltb-true n places e)) k h) (λ e. refl)
+  pub take-ended : (k : ℕ) → k ≤ 3 * n → take k (ended places ws n) ≡ take k ws
+  take-ended k h = cond_both (ltb n places) _ ws (λ vs. take k vs ≡ take k ws) (λ e. take_before-replaced ws (0 ∷ []) (3 * n) (inside (ltb-true n places e)) k h) (λ e. refl)
 
   pub drop-ended : (k : ℕ) → 3 * places ≤ k → drop k (ended places ws n) ≡ drop k ws
   drop-ended k h =
@@ -68,5 +44,30 @@ module _ (places : ℕ) (ws : List ℕ) (n : ℕ) (room : 3 * places ≤ length 
   -- the end mark stands there, where there is a place
   pub zero_ended : n < places → get_or (ended places ws n) (3 * n) 0 ≡ 0
   zero_ended h =
+      let long : length (take (3 * n) ws) ≡ 3 * n = length-take-le (3 * n) ws (omega arith) in
       ap (λ vs. get_or vs (3 * n) 0) (cond-true (ltb n places) (replaced ws (3 * n) (0 ∷ [])) ws (lt-ltb n places h))
-      ∙ at_replaced ws (0 ∷ []) (3 * n) (inside h) 0 (3 * n) (omega arith) (omega arith)
+      ∙ get_or-append_right (take (3 * n) ws) _ (3 * n) (3 * n) 0 long (omega arith)
+      ∙ (let e : 3 * n - 3 * n ≡ 0 = omega arith in ap (λ k. get_or (0 ∷ drop (3 * n + 1) ws) k 0) e)
+
+-- one row more after n rows, and the end after it
+module _ (places : ℕ) (ws : List ℕ) (n : ℕ) (row : Row) (room : 3 * places ≤ length ws) (free : n < places) where
+  within : 3 * n + 3 ≤ length ws
+  within = omega arith
+
+  pub length-mid : length (replaced ws (3 * n) (row_words row)) ≡ length ws
+  length-mid = length-replaced ws (row_words row) (3 * n) within
+
+  pub room_mid : 3 * places ≤ length (replaced ws (3 * n) (row_words row))
+  room_mid = omega (arith, length-mid)
+
+  pub length-row_put : length (row_put places ws n row) ≡ length ws
+  length-row_put = length-ended places _ (n + 1) room_mid ∙ length-mid
+
+  pub take-row_put : take (3 * n) (row_put places ws n row) ≡ take (3 * n) ws
+  take-row_put = take-ended places _ (n + 1) room_mid (3 * n) (omega arith) ∙ take_before-replaced ws (row_words row) (3 * n) within (3 * n) (omega arith)
+
+  pub take_with-row_put : (k : ℕ) → k ≡ 3 * n + 3 → take k (row_put places ws n row) ≡ take (3 * n) ws ++ row_words row
+  take_with-row_put k e = take-ended places _ (n + 1) room_mid k (omega arith) ∙ take-replaced ws (row_words row) (3 * n) within k e
+
+  pub drop-row_put : (k : ℕ) → 3 * places ≤ k → drop k (row_put places ws n row) ≡ drop k ws
+  drop-row_put k h = drop-ended places _ (n + 1) room_mid k h ∙ drop-replaced ws (row_words row) (3 * n) within k (omega arith)

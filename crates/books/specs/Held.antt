@@ -1,35 +1,23 @@
--- What a word book means, from its words and its numbers, what its calls write, and that its words stay house words. Assumes nothing.
+-- What a word book means, from its words and its counts, what its calls write, and that its words stay house words. Assumes nothing.
 use Rattle.std.specs.Prelude.{◌≡◌, ℕ, ◌+◌, List, length, take, drop, Ok}
 use Rattle.bounds.specs.declared.row.Row.{Row}
 use Rattle.words.specs.Reading.{Holds, Checked}
 use Rattle.books.specs.Meaning.{Meaning, bounds_of}
 use Rattle.books.specs.Calls.{Went}
-use Rattle.books.specs.Lent.{places_in, fixed_in, added_in, rows_in, ended, row_put}
+use Rattle.books.specs.Lent.{rows_in, ended, row_put}
 use Rattle.books.specs.declared.lent.WordBook.{WordBook}
 
 abbrev pub meaning_of : WordBook → Meaning
-meaning_of w = rows_in w.words.now w.places w.fixed w.added
-
--- how many places, fixed rows and added rows it has, and how many rows together
-abbrev pub places_of : WordBook → ℕ
-places_of w = places_in w.words.now w.places
-
-abbrev pub fixed_of : WordBook → ℕ
-fixed_of w = fixed_in w.words.now w.places w.fixed
-
-abbrev pub added_of : WordBook → ℕ
-added_of w = added_in w.words.now w.places w.fixed w.added
-
-abbrev pub count_of : WordBook → ℕ
-count_of w = fixed_of w + added_of w
+meaning_of w = rows_in w.words.now w.counts
 
 -- the same words are lent; one row is put in, and then a zero head where there is a place: no other word changes
 abbrev pub RowAdded : WordBook → Row → WordBook → Type 0
-RowAdded w row v = (v.words.ghost_name ≡ w.words.ghost_name) × (v.words.now ≡ row_put (places_of w) w.words.now (count_of w) row)
+RowAdded w row v =
+    (v.words.ghost_name ≡ w.words.ghost_name) × (v.words.now ≡ row_put w.counts.places w.words.now (w.counts.fixed + w.counts.added) row)
 
 -- the same words are lent, and a zero head is put after the rows that are kept, where there is a place: no other word changes
 abbrev pub RowsCut : WordBook → ℕ → WordBook → Type 0
-RowsCut w k v = (v.words.ghost_name ≡ w.words.ghost_name) × (v.words.now ≡ ended (places_of w) w.words.now (fixed_of w + k))
+RowsCut w k v = (v.words.ghost_name ≡ w.words.ghost_name) × (v.words.now ≡ ended w.counts.places w.words.now (w.counts.fixed + k))
 
 -- the words ws have become those of the book v: they hold its bounds and no other row, they are as many, and those past the first
 -- 196,605 are as they were

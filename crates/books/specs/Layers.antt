@@ -1,5 +1,5 @@
 -- What the books with rows of their own mean: a table, and a trial over the book below it. Assumes nothing.
-use Rattle.std.specs.Prelude.{◌≡◌, ℕ, ◌-◌, min, List, [], length, take}
+use Rattle.std.specs.Prelude.{◌≡◌, ℕ, ◌-◌, min, List, [], length}
 use Rattle.bounds.specs.declared.row.Row.{Row}
 use Rattle.books.specs.Meaning.{Meaning, bounds_of}
 
@@ -11,14 +11,9 @@ table_of rows = record { fixed = []; added = rows; free = 1024 - length rows }
 abbrev pub trial_places : Meaning → ℕ
 trial_places below = min 64 (65535 - length (bounds_of below))
 
--- a trial with these rows over the book below: all bounds below are fixed, and those of its own are added, as many as it has
--- place for (it never has more)
+-- a trial with these rows over the book below: all bounds below are fixed, and those of its own are added
 abbrev pub trial_over : Meaning → List Row → Meaning
-trial_over below own = record {
-  fixed = bounds_of below;
-  added = take (trial_places below) own;
-  free = trial_places below - length own;
-}
+trial_over below own = record { fixed = bounds_of below; added = own; free = trial_places below - length own }
 
 -- the part that lies below is the same before and after
 abbrev pub BelowSame : {S X T : Type 0} → (S → T) → S → X → S → Type 0

@@ -4,6 +4,7 @@ use Rattle.bounds.specs.declared.row.Row.{Row}
 use Rattle.words.specs.declared.fault.WordFault.{WordFault}
 use Rattle.words.specs.Words.{row_words}
 use Rattle.words.specs.Reading.{Holds, Checked}
+use Rattle.books.specs.declared.lent.counts.Counts.{Counts}
 use Rattle.books.specs.Meaning.{Meaning}
 use Rattle.books.specs.Decoding.{rows_from}
 
@@ -11,22 +12,12 @@ use Rattle.books.specs.Decoding.{rows_from}
 abbrev pub row_places : ℕ → ℕ
 row_places words = min (words / 3) 65535
 
--- what the book's three numbers come to over its words: places, fixed rows and added rows, each no more than there is place for
-abbrev pub places_in : List ℕ → ℕ → ℕ
-places_in ws places = min places (row_places (length ws))
-
-abbrev pub fixed_in : List ℕ → ℕ → ℕ → ℕ
-fixed_in ws places fixed = min fixed (places_in ws places)
-
-abbrev pub added_in : List ℕ → ℕ → ℕ → ℕ → ℕ
-added_in ws places fixed added = min added (places_in ws places - fixed_in ws places fixed)
-
--- the fixed rows come first in the words, then the added ones; the places after those are free
-abbrev pub rows_in : List ℕ → ℕ → ℕ → ℕ → Meaning
-rows_in ws places fixed added = record {
-  fixed = rows_from ws 0 (fixed_in ws places fixed);
-  added = rows_from ws (fixed_in ws places fixed) (added_in ws places fixed added);
-  free = places_in ws places - (fixed_in ws places fixed + added_in ws places fixed added);
+-- what these counts mean over the words: the fixed rows come first, then the added ones; the places after those are free
+abbrev pub rows_in : List ℕ → Counts → Meaning
+rows_in ws c = record {
+  fixed = rows_from ws 0 c.fixed;
+  added = rows_from ws c.fixed c.added;
+  free = c.places - (c.fixed + c.added);
 }
 
 -- what a book over words means when it is opened, by what their check answers: the rows found are fixed and the remaining threes

@@ -1,7 +1,6 @@
 pub mod Meaning
 pub mod Faults
 pub mod Calls
-pub mod Sound
 pub mod Listed
 pub mod Layers
 pub mod Laws

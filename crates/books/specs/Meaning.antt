@@ -1,6 +1,6 @@
 -- What a book means, and what adding and cutting make of it. Assumes nothing.
 use Rattle.std.specs.Prelude.{ℕ, ◌+◌, ◌-◌, ◌≤◌, List, ◌++◌, length, take}
-use Rattle.std.specs.List.{AllByRecursion}
+use Rattle.std.specs.List.{All}
 use Rattle.bounds.specs.declared.row.Row.{Row}
 use Rattle.bounds.specs.Range.{Sound}
 
@@ -17,7 +17,7 @@ bounds_of m = m.fixed ++ m.added
 -- what holds of every book: bounds and free places together are at most 65,535, and each row is that of a bound
 pub record Proper (m : Meaning) : Type 0 where
   pub few : length (bounds_of m) + m.free ≤ 65535
-  pub sound : AllByRecursion Sound (bounds_of m)
+  pub sound : All Sound (bounds_of m)
 
 -- some bounds more at the end of the added list, each in a place that was free
 abbrev pub with_bounds : Meaning → List Row → Meaning

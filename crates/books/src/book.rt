@@ -17,9 +17,6 @@ pub trait Book {
     // The fixed list, the added list and the number of free places.
     ghost meaning: { Self → Meaning };
 
-    // Bounds and free places together are at most 65,535, and every row is that of a bound.
-    ghost proper: { (b : Self) → Proper (meaning b) };
-
     // What an accepted adding, and an accepted cutting, leave of the storage beside the meaning: the book before, and after.
     ghost adds: { Self → Row → Self → Type 0 };
 
@@ -54,4 +51,7 @@ pub trait Book {
     // and then nothing changes.
     fn cut(&mut self, k: usize) -> bool
         ensures { Cutting meaning cuts self.old k self.new result };
+
+    // Bounds and free places together are at most 65,535, and every row is that of a bound.
+    ghost proper: { (b : Self) → Proper (meaning b) };
 }

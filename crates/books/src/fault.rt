@@ -1,7 +1,9 @@
-ghost use Rattle.std.specs.Prelude.{◌≡◌};
+ghost use Rattle.std.specs.Prelude.{◌≡◌, Some};
 ghost use Rattle.books.specs.Faults.{fault_of, reason_of};
 
 use faults::{Fault, Layer};
+use std::error::Error;
+use std::fmt;
 
 // Why a book refuses.
 #[derive(Clone, Copy, PartialEq, Eq, Debug)]
@@ -10,12 +12,12 @@ pub enum BookFault {
     Full,
 }
 
-impl BookFault {
-    // Fault 9 of layer B, which names no place.
-    pub fn fault(self) -> Fault
-        ensures { result ≡ fault_of self }
-    {
-        match self {
+// Fault 9 of layer B, which names no place.
+impl From<BookFault> for Fault {
+    ghost from_gives = { λ e r. r ≡ fault_of e };
+
+    fn from(e: BookFault) -> Fault {
+        match e {
             BookFault::Full => Fault {
                 number: 9,
                 layer: Layer::Books,
@@ -23,13 +25,17 @@ impl BookFault {
             },
         }
     }
+}
 
-    // What is wrong, in words.
-    pub fn reason(self) -> &'static str
-        ensures { result.now ≡ reason_of self }
-    {
+// What is wrong, in words.
+impl fmt::Display for BookFault {
+    ghost output = { λ e. Some (reason_of e) };
+
+    fn fmt<W: fmt::Write>(&self, f: &mut fmt::Formatter<W>) -> fmt::Result {
         match self {
-            BookFault::Full => "the book has no free place",
+            BookFault::Full => write!(f, "the book has no free place"),
         }
     }
 }
+
+impl Error for BookFault {}

@@ -1,60 +1,32 @@
-ghost use Rattle.std.specs.Prelude.{◌≡◌, ◌+◌, ◌*◌, ◌≤◌, length};
+ghost use Rattle.std.specs.Prelude.{◌≡◌, ◌+◌, ◌*◌, ◌<◌, ◌≤◌, length};
 ghost use Rattle.bounds.specs.Making.{row_of};
-ghost use Rattle.books.specs.Decoding.{row_in};
-ghost use Rattle.books.specs.Lent.{Opened, rows_in, row_places, replaced, ended};
-ghost use Rattle.books.specs.Held.{meaning_of, places_of, fixed_of, added_of, count_of, RowAdded, RowsCut, StaysWritten};
-ghost use Rattle.books.specs.WordLaws.{words_proper};
+ghost use Rattle.books.specs.Decoding.{BoundsIn, OfBound, taken_apart};
+ghost use Rattle.books.specs.Lent.{ended, row_put};
 
-use crate::book::{Book, MOST};
+use crate::book::Book;
 use crate::fault::BookFault;
-use crate::rows::edit::{ZERO, sound_bound};
+use crate::lent::counts::Counts;
 use bounds::Bound;
-use words::{bound_of, check, words_of};
+use words::BoundWords;
+
+mod counts;
 
 // The word book: bounds in house words that the caller lends. It keeps its rows where they are: the fixed ones, then the added
 // ones, then a zero head where there is a place for it.
 #[derive(Drop)]
 pub struct WordBook<'a> {
     words: &'a mut [u32],
-    // how many rows there is place for, how many were found at opening, and how many were added since
-    places: usize,
-    fixed: usize,
-    added: usize,
+    counts: Counts,
+    ghost room: { 3 * counts.places ≤ length words.now },
+    ghost bounds: { BoundsIn words.now (counts.fixed + counts.added) },
 }
 
-// The bound that has these words. Where no bound has them it is that of zeros: over words that were accepted it is not asked.
-fn bound_in(head: u32, t: u32, s: u32) -> Bound
-    ensures { row_of result ≡ row_in head t s }
+// The bound that has these words.
+fn bound_in(row: [u32; 3]) -> Bound
+    requires { OfBound row }
+    ensures { row_of result ≡ taken_apart row }
 {
-    match bound_of(head, t, s) {
-        Ok(bound) => bound,
-        Err(_) => sound_bound(ZERO),
-    }
-}
-
-// How many rows so many words have place for.
-fn rows_within(words: usize) -> usize
-    ensures { result ≡ row_places words }
-{
-    (words / 3).min(MOST)
-}
-
-// How many places there are over the words, and how many rows: none where the check refuses them.
-fn found(words: &[u32]) -> (usize, usize)
-    ensures { Opened words.now (rows_in words.now result.0 result.1 0) }
-{
-    match check(words) {
-        Ok(rows) => (rows_within(words.len()), rows),
-        Err(_) => (0, 0),
-    }
-}
-
-// Puts three words in the place of those from `at` on.
-fn put_row(words: &mut [u32], at: usize, row: [u32; 3])
-    requires { at + 3 ≤ length words.old }
-    ensures { words.new ≡ replaced words.old at row }
-{
-    words[at..at + 3].copy_from_slice(&row);
+    Bound::try_from(BoundWords(row)).unwrap()
 }
 
 // Puts a zero head after `n` rows, where there is a place for it.
@@ -67,7 +39,20 @@ fn put_end(words: &mut [u32], places: usize, n: usize)
     }
 }
 
+// Puts a bound after `n` rows, and the end after it.
+fn put_bound(words: &mut [u32], places: usize, n: usize, bound: Bound)
+    requires room { 3 * places ≤ length words.old }
+    requires free { n < places }
+    ensures { words.new ≡ row_put places words.old n (row_of bound) }
+{
+    words[3 * n..3 * n + 3].copy_from_slice(&BoundWords::from(bound).0);
+    put_end(words, places, n + 1);
+}
+
 impl<'a> WordBook<'a> {
+    ghost use Rattle.books.specs.Lent.{Opened};
+    ghost use Rattle.books.specs.Held.{meaning_of, StaysWritten};
+
     // A book over lent words, which never refuses. Have the words checked first: the rows that `words::check` finds are fixed,
     // and the remaining threes are free. Whatever calls the book then goes through, its words hold its bounds. Over words that
     // the check refuses the book has no bound and no free place.
@@ -76,96 +61,59 @@ impl<'a> WordBook<'a> {
         ensures opened { Opened words.old (meaning_of result) }
         ensures stays { StaysWritten words.old result }
     {
-        let (places, fixed) = found(words);
-        WordBook {
-            words,
-            places,
-            fixed,
-            added: 0,
-        }
-    }
-
-    // How many rows there is place for.
-    fn places_held(&self) -> usize
-        ensures { result ≡ places_of self.now }
-    {
-        self.places.min(rows_within(self.words.len()))
-    }
-
-    // How many fixed and added rows there are, of those that there is place for.
-    fn fixed_held(&self) -> usize
-        ensures { result ≡ fixed_of self.now }
-    {
-        self.fixed.min(self.places_held())
-    }
-
-    fn added_held(&self) -> usize
-        ensures { result ≡ added_of self.now }
-    {
-        self.added.min(self.places_held() - self.fixed_held())
-    }
-
-    fn rows_held(&self) -> usize
-        ensures { result ≡ count_of self.now }
-    {
-        self.fixed_held() + self.added_held()
+        let counts = Counts::found(words);
+        WordBook { words, counts }
     }
 }
 
+#[tactic(auto, using(crate::proofs::Decodings::row_count))]
 impl<'a> Book for WordBook<'a> {
-    ghost meaning = { λ w. meaning_of w };
+    ghost use Rattle.books.specs.Held.{meaning_of, RowAdded, RowsCut};
+    ghost use Rattle.books.specs.WordLaws.{words_proper};
 
-    ghost proper = { λ w. words_proper w.words.now w.places w.fixed w.added };
+    ghost meaning = { λ w. meaning_of w };
 
     ghost adds = { RowAdded };
 
     ghost cuts = { RowsCut };
 
     fn fixed_count(&self) -> usize {
-        self.fixed_held()
+        self.counts.fixed
     }
 
     fn added_count(&self) -> usize {
-        self.added_held()
+        self.counts.added
     }
 
     fn free_count(&self) -> usize {
-        self.places_held() - self.rows_held()
-    }
-
-    fn count(&self) -> usize {
-        self.rows_held()
+        self.counts.free()
     }
 
     fn read(&self, i: usize) -> Option<Bound> {
-        if i < self.rows_held() {
-            let at = 3 * i;
-            Some(bound_in(self.words[at], self.words[at + 1], self.words[at + 2]))
-        } else {
-            None
-        }
+        let (rows, _) = self.words.as_chunks::<3>();
+        let row = rows[..self.counts.rows()].get(i)?;
+        Some(bound_in(*row))
     }
 
     fn add(&mut self, bound: Bound) -> Result<(), BookFault> {
-        let places = self.places_held();
-        let n = self.rows_held();
-        if n >= places {
+        let places = self.counts.places;
+        let n = self.counts.rows();
+        if n == places {
             return Err(BookFault::Full);
         }
-        put_row(self.words, 3 * n, words_of(bound));
-        put_end(self.words, places, n + 1);
-        self.added += 1;
+        put_bound(self.words, places, n, bound);
+        self.counts.added += 1;
         Ok(())
     }
 
     fn cut(&mut self, k: usize) -> bool {
-        if k > self.added_held() {
+        if k > self.counts.added {
             return false;
         }
-        let places = self.places_held();
-        let n = self.fixed_held() + k;
-        put_end(self.words, places, n);
-        self.added = k;
+        self.counts.added = k;
+        put_end(self.words, self.counts.places, self.counts.rows());
         true
     }
+
+    ghost proper = { λ w. words_proper w.words.now w.counts w.bounds };
 }

@@ -1,16 +1,55 @@
-ghost use Rattle.std.specs.Prelude.{◌≡◌, ℕ, ◌≤◌, length};
-ghost use Rattle.books.specs.Sound.{SoundRows};
+ghost use Rattle.std.specs.Prelude.{◌≡◌, ◌<◌, ◌≤◌, [], ◌∷◌, ◌++◌, length, take};
+ghost use Rattle.std.specs.Option.{option_map};
+ghost use Rattle.std.specs.List.{All, slice_get};
+ghost use Rattle.bounds.specs.Making.{row_of};
+ghost use Rattle.bounds.specs.Range.{Sound};
 
-use bounds::Row;
-
-pub mod edit;
+use arrayvec::ArrayVec;
+use bounds::{Bound, Row};
 
 // Up to N bounds as plain rows: the inner table of the books that keep bounds of their own.
 #[derive(Drop)]
 pub struct Rows<const N: usize> {
-    cells: [Row; N],
-    len: usize,
-    ghost long: { length cells ≡ N },
-    ghost within: { len ≤ N },
-    ghost sound: { SoundRows cells },
+    rows: ArrayVec<Row, N>,
+    ghost few: { length rows.items ≤ N },
+    ghost sound: { All Sound rows.items },
+}
+
+impl<const N: usize> Rows<N> {
+    ghost use Rattle.books.specs.Listed.{listed};
+
+    pub(crate) fn new() -> Rows<N>
+        ensures { listed result ≡ [] }
+    {
+        Rows {
+            rows: ArrayVec::new(),
+        }
+    }
+
+    pub(crate) fn len(&self) -> usize
+        ensures { result ≡ length (listed self.now) }
+    {
+        self.rows.len()
+    }
+
+    // The bound of the row with the number `i`, or nothing exactly when there is none.
+    pub(crate) fn read(&self, i: usize) -> Option<Bound>
+        ensures { option_map row_of result ≡ slice_get (listed self.now) i }
+    {
+        self.rows.get(i).map(|row| Bound::try_from(*row).unwrap())
+    }
+
+    pub(crate) fn push(&mut self, bound: Bound)
+        requires { length (listed self.old) < N }
+        ensures { listed self.new ≡ listed self.old ++ row_of bound ∷ [] }
+    {
+        self.rows.push(bound.row());
+    }
+
+    // Keeps the first `k` rows.
+    pub(crate) fn cut(&mut self, k: usize)
+        ensures { listed self.new ≡ take k (listed self.old) }
+    {
+        self.rows.truncate(k);
+    }
 }

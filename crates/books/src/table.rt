@@ -25,10 +25,16 @@ impl Table {
     }
 }
 
+impl Default for Table {
+    ghost is_default = { λ t. table_of (listed t.rows) ≡ table_of [] };
+
+    fn default() -> Table {
+        Table::new()
+    }
+}
+
 impl Book for Table {
     ghost meaning = { λ t. table_of (listed t.rows) };
-
-    ghost proper = { λ t. table_proper t.rows };
 
     ghost adds = { λ _ _ _. Unit {0} };
 
@@ -65,4 +71,6 @@ impl Book for Table {
         self.rows.cut(k);
         true
     }
+
+    ghost proper = { λ t. table_proper t.rows };
 }

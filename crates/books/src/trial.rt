@@ -1,4 +1,4 @@
-ghost use Rattle.std.specs.Prelude.{◌≡◌, []};
+ghost use Rattle.std.specs.Prelude.{◌≡◌, ◌≤◌, [], length};
 ghost use Rattle.books.specs.Listed.{listed};
 ghost use Rattle.books.specs.Layers.{BelowSame, trial_over, trial_places};
 ghost use Rattle.books.specs.Laws.{trial_proper};
@@ -16,14 +16,15 @@ const PLACES: usize = 64;
 pub struct Trial<B: Book> {
     below: B,
     own: Rows<PLACES>,
+    ghost fits: { length (listed own) ≤ trial_places (B.meaning below) },
 }
 
 impl<B: Book> Trial<B> {
     // A trial over a book, with nothing added yet. Whatever calls it then goes through, the book below stays the same.
     pub fn lay(below: B) -> Trial<B>
         ensures below { result.below ≡ below }
-        ensures empty { trial_over (B.Book.meaning result.below) (listed result.own) ≡ trial_over (B.Book.meaning below) [] }
-        ensures kept { Keeps (λ (t : Trial B). trial_over (B.Book.meaning t.below) (listed t.own)) (BelowSame (λ t. t.below)) (BelowSame (λ t. t.below)) (λ t. t.below) }
+        ensures empty { trial_over (B.meaning result.below) (listed result.own) ≡ trial_over (B.meaning below) [] }
+        ensures kept { Keeps ⟦<Trial<B> as Book>⟧.meaning ⟦<Trial<B> as Book>⟧.adds ⟦<Trial<B> as Book>⟧.cuts (λ t. t.below) }
     {
         Trial {
             below,
@@ -38,19 +39,10 @@ impl<B: Book> Trial<B> {
         let Trial { below, own: _ } = self;
         below
     }
-
-    // How many bounds of its own the trial has place for.
-    fn places(&self) -> usize
-        ensures { result ≡ trial_places (B.Book.meaning self.now.below) }
-    {
-        PLACES.min(MOST - self.below.count())
-    }
 }
 
 impl<B: Book> Book for Trial<B> {
-    ghost meaning = { λ t. trial_over (B.Book.meaning t.below) (listed t.own) };
-
-    ghost proper = { λ t. trial_proper (B.Book.meaning t.below) t.own (B.Book.proper t.below) };
+    ghost meaning = { λ t. trial_over (B.meaning t.below) (listed t.own) };
 
     // The book below is the same.
     ghost adds = { BelowSame (λ t. t.below) };
@@ -62,21 +54,20 @@ impl<B: Book> Book for Trial<B> {
     }
 
     fn added_count(&self) -> usize {
-        self.own.len().min(self.places())
+        self.own.len()
     }
 
+    // Of 64 places, or of 65,535 less the bounds below if those are fewer.
     fn free_count(&self) -> usize {
-        self.places().saturating_sub(self.own.len())
+        PLACES.min(MOST - self.below.count()) - self.own.len()
     }
 
     fn read(&self, i: usize) -> Option<Bound> {
         let below = self.below.count();
         if i < below {
             self.below.read(i)
-        } else if i - below < self.added_count() {
-            self.own.read(i - below)
         } else {
-            None
+            self.own.read(i - below)
         }
     }
 
@@ -89,10 +80,12 @@ impl<B: Book> Book for Trial<B> {
     }
 
     fn cut(&mut self, k: usize) -> bool {
-        if k > self.added_count() {
+        if k > self.own.len() {
             return false;
         }
         self.own.cut(k);
         true
     }
+
+    ghost proper = { λ t. trial_proper (B.meaning t.below) t.own t.fits (B.proper t.below) };
 }

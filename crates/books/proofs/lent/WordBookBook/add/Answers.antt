@@ -1,19 +1,30 @@
-use Rattle.std.proofs.Common.{◌≡◌, ◌+◌, ◌*◌, refl, ap, ◌∙◌, arith}
-use Rattle.books.specs.Held.{places_of, count_of}
-use Rattle.books.specs.Lent.{replaced, ended, row_put}
-use Rattle.books.proofs.Lents.{add_meaning}
+use Rattle.std.proofs.Common.{◌≡◌, ◌+◌, ◌<◌, length, refl, ap, ◌∙◌, arith}
+use Rattle.books.specs.Lent.{row_put}
+use Rattle.books.proofs.Lents.{add_meaning, put_bounds}
+use Rattle.books.proofs.Replaced.{length-row_put}
 use Rattle.books.proofs.lent.WordBookBook.add.Goals as goal
+
+pub invariant_of-self-2 : goal.invariant_of-self-2
+invariant_of-self-2 c =
+    let w = c.args.self.now in
+    let ws = w.words.now in
+    let n = w.counts.fixed + w.counts.added in
+    let row = c.args.bound.row in
+    let free : n < w.counts.places = omega (arith, w.counts.held) in
+    let made : c.put_bound.new.words ≡ row_put w.counts.places ws n row
+    = c.put_bound.ensures ∙ ap (λ k. row_put w.counts.places ws k row) c.rows-n.ensures in
+    let room = w.room in record {
+      room = omega (arith, ap length made ∙ length-row_put w.counts.places ws n row w.room free);
+      bounds = put_bounds ws _ w.counts.places n row w.room free made w.bounds c.args.bound.sound _ (omega arith);
+    }
 
 pub returns : goal.returns
 returns c =
     let w = c.args.self.now in
     let ws = w.words.now in
+    let n = w.counts.fixed + w.counts.added in
     let row = c.args.bound.row in
-    let places = c.places_held-places.ensures in
-    let n = c.rows_held-n.ensures in
-    let made : c.put_end.new.words ≡ row_put (places_of w) ws (count_of w) row
-    = c.put_end.ensures ∙ ap (λ l. ended c.places_held-places.result l (c.rows_held-n.result + 1)) c.put_row.ensures
-    ∙ ap (λ l. ended c.places_held-places.result (replaced ws (3 * c.rows_held-n.result) l) (c.rows_held-n.result + 1)) c.words_of.ensures.value
-    ∙ ap (λ m. row_put c.places_held-places.result ws m row) n
-    ∙ ap (λ p. row_put p ws (count_of w) row) places in
-    (omega arith, add_meaning ws c.put_end.new.words w.places w.fixed w.added row c.args.bound.sound (omega arith) made, (refl, made))
+    let free : n < w.counts.places = omega (arith, w.counts.held) in
+    let made : c.put_bound.new.words ≡ row_put w.counts.places ws n row
+    = c.put_bound.ensures ∙ ap (λ k. row_put w.counts.places ws k row) c.rows-n.ensures in
+    (omega arith, add_meaning ws _ w.counts.places w.counts.fixed w.counts.added w.room row free made c.args.bound.sound, (refl, made))

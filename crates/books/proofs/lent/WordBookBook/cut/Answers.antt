@@ -1,25 +1,32 @@
-use Rattle.std.proofs.Common.{◌≡◌, ◌+◌, refl, ap, ◌∙◌, arith}
+use Rattle.std.proofs.Common.{◌≡◌, ◌+◌, length, refl, ap, ◌∙◌, arith}
 use Rattle.std.proofs.lemmas.List.FromFn.{length-map-range_with_len}
 use Rattle.books.specs.Decoding.{row_at}
-use Rattle.books.specs.Held.{places_of, fixed_of, added_of}
 use Rattle.books.specs.Lent.{ended}
-use Rattle.books.proofs.Lents.{cut_meaning}
+use Rattle.books.proofs.Lents.{cut_bounds, cut_meaning}
+use Rattle.books.proofs.Replaced.{length-ended}
 use Rattle.books.proofs.lent.WordBookBook.cut.Goals as goal
 
-pub returns-then-k-added_held : goal.returns-then-k-added_held
-returns-then-k-added_held c =
+pub returns-then-k-self : goal.returns-then-k-self
+returns-then-k-self c =
     let w = c.args.self.now in
-    (omega (arith, length-map-range_with_len (row_at w.words.now) (fixed_of w) (added_of w)), refl)
+    (omega (arith, length-map-range_with_len (row_at w.words.now) w.counts.fixed w.counts.added), refl)
+
+pub invariant_of-self-2 : goal.invariant_of-self-2
+invariant_of-self-2 c =
+    let w = c.args.self.now in
+    let ws = w.words.now in
+    let made : c.put_end.new.words ≡ ended w.counts.places ws (w.counts.fixed + c.args.k)
+    = c.put_end.ensures ∙ ap (ended w.counts.places ws) c.rows.ensures in
+    let room = w.room in record {
+      room = omega (arith, ap length made ∙ length-ended w.counts.places ws (w.counts.fixed + c.args.k) w.room);
+      bounds = cut_bounds ws _ w.counts.places w.counts.fixed w.counts.added w.room c.args.k (omega arith) made w.bounds;
+    }
 
 pub returns : goal.returns
 returns c =
     let w = c.args.self.now in
     let ws = w.words.now in
-    let k = c.args.k in
-    let made : c.put_end.new.words ≡ ended (places_of w) ws (fixed_of w + k)
-    = c.put_end.ensures ∙ ap (λ p. ended p ws (c.fixed_held.result + k)) c.places_held-places.ensures
-    ∙ ap (λ f. ended (places_of w) ws (f + k)) c.fixed_held.ensures in (
-      omega (arith, length-map-range_with_len (row_at ws) (fixed_of w) (added_of w)),
-      cut_meaning ws c.put_end.new.words w.places w.fixed w.added k (omega arith) made,
-      (refl, made),
-    )
+    let many = length-map-range_with_len (row_at ws) w.counts.fixed w.counts.added in
+    let made : c.put_end.new.words ≡ ended w.counts.places ws (w.counts.fixed + c.args.k)
+    = c.put_end.ensures ∙ ap (ended w.counts.places ws) c.rows.ensures in
+    (omega (arith, many), cut_meaning ws _ w.counts.places w.counts.fixed w.counts.added w.room c.args.k (omega arith) made w.counts.held, (refl, made))

@@ -1,29 +1,34 @@
-use Rattle.std.proofs.Common.{◌<◌, ◌≤◌, length, Some, sym, ap, ◌∙◌, arith}
-use Rattle.std.specs.List.{slice_get}
-use Rattle.std.proofs.lemmas.List.FromFn.{length-map-range_with_len, get_or-map-range_with_len}
-use Rattle.std.proofs.lemmas.Option.{slice_get-get_or, slice_get_past}
-use Rattle.books.specs.Decoding.{row_at, rows_from}
-use Rattle.books.specs.Held.{fixed_of, added_of, count_of}
-use Rattle.books.specs.Sound.{zero_row}
-use Rattle.books.proofs.Decodings.{all_rows}
+use Rattle.std.proofs.Common.{◌≡◌, ◌+◌, ◌≤◌, Some, sym, ap, ◌∙◌, subst, arith}
+use Rattle.std.proofs.lemmas.List.{length-take}
+use Rattle.std.specs.Option.{option_map}
+use Rattle.bounds.specs.Making.{row_of}
+use Rattle.books.specs.Decoding.{OfBound, taken_apart, words_at}
+use Rattle.books.proofs.Decodings.{chunk_found, row_read, row_past}
 use Rattle.books.proofs.lent.WordBookBook.read.Goals as goal
 
-pub returns-then-i-rows_held : goal.returns-then-i-rows_held
-returns-then-i-rows_held c =
+pub returns-in_err-row : goal.returns-in_err-row
+returns-in_err-row c =
     let w = c.args.self.now in
-    let ws = w.words.now in
-    let n = count_of w in
-    let i = c.args.i in
-    let here : i < n = omega arith in
-    let inside : i < length (rows_from ws 0 n) = omega (arith, length-map-range_with_len (row_at ws) 0 n) in
-    ap Some (c.bound_in.ensures ∙ sym (get_or-map-range_with_len (row_at ws) 0 n i i zero_row here (omega arith)))
-    ∙ sym (ap (λ l. slice_get l i) (all_rows ws (fixed_of w) (added_of w)) ∙ slice_get-get_or _ i zero_row inside)
+    let none = c.in_err-row.ensures.lookup in
+    let few = length-take c.rows.result c.as_chunks.result.0.now in
+    let long = c.as_chunks.ensures.front_len in
+    let past : w.counts.fixed + w.counts.added ≤ c.args.i = omega (arith, none.3, w.room, w.counts.held) in
+    ap (option_map row_of) c.from_residual.ensures ∙ sym (row_past w.words.now w.counts.fixed w.counts.added c.args.i past)
 
-pub returns-else-i-rows_held : goal.returns-else-i-rows_held
-returns-else-i-rows_held c =
+pub bound_in-requires : goal.bound_in-requires
+bound_in-requires c =
     let w = c.args.self.now in
-    let ws = w.words.now in
-    let n = count_of w in
-    let i = c.args.i in
-    let past : length (rows_from ws 0 n) ≤ i = omega (arith, length-map-range_with_len (row_at ws) 0 n) in
-    sym (ap (λ l. slice_get l i) (all_rows ws (fixed_of w) (added_of w)) ∙ slice_get_past _ i past)
+    let found = c.in_ok-row.ensures.lookup in
+    let few = length-take c.rows.result c.as_chunks.result.0.now in
+    let is : c.in_ok-row.row.now ≡ words_at w.words.now c.args.i
+    = chunk_found _ _ _ _ _ c.as_chunks.ensures.front c.as_chunks.ensures.front_len found.3.0 found.1 in
+    subst OfBound (sym is) (w.bounds c.args.i (omega arith))
+
+pub returns : goal.returns
+returns c =
+    let w = c.args.self.now in
+    let found = c.in_ok-row.ensures.lookup in
+    let few = length-take c.rows.result c.as_chunks.result.0.now in
+    let is : c.in_ok-row.row.now ≡ words_at w.words.now c.args.i
+    = chunk_found _ _ _ _ _ c.as_chunks.ensures.front c.as_chunks.ensures.front_len found.3.0 found.1 in
+    ap Some (c.bound_in.ensures ∙ ap taken_apart is) ∙ sym (row_read w.words.now w.counts.fixed w.counts.added c.args.i (omega arith))
