@@ -86,15 +86,21 @@ fn orders(rt: HostRuntime) -> Result<(), Fail> {
 #[test]
 fn totals(rt: HostRuntime) -> Result<(), Fail> {
     let greatest = ticks(500_000_000)?;
-    assert_eq!(rt; total::<Ticks>(&[]), Some(Ticks::zero()));
+    assert_eq!(rt; total::<Ticks, Ticks>(&[]), Some(Ticks::zero()));
     assert_eq!(rt; total(&[greatest; 256]), Some(ticks(128_000_000_000)?));
     assert_eq!(rt; total(&[ticks(REACH)?, ticks(1)?, ticks(-1)?]), None);
     assert_eq!(rt;
         total(&[ticks(REACH)?, ticks(-1)?, ticks(1)?]),
         Some(ticks(REACH)?)
     );
-    assert_eq!(rt; (Ticks::GREATEST, Ticks::REACH), (500_000_000, 1_099_511_627_776));
-    assert_eq!(rt; (Ranked::GREATEST, Ranked::REACH), (500_000_000, 1_099_511_627_776));
+    assert_eq!(rt;
+        (Ticks::GREATEST, Ticks::REACH),
+        (500_000_000, 1_099_511_627_776)
+    );
+    assert_eq!(rt;
+        (Ranked::GREATEST, Ranked::REACH),
+        (500_000_000, 1_099_511_627_776)
+    );
     Ok(())
 }
 

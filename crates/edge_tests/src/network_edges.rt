@@ -1,6 +1,9 @@
 // Times, chains and walks at the edges of what meets and what does not, and the words of links.
 use delays::{Delay, KindFault, Ranked, Ticks, read_pair};
-use network::{Edge, Link, Mismatch, check_times, comes_over, edge_of, floor, in_force, is_chain};
+use network::{
+    Edge, Link, Mismatch, NoLink, NoWord, check_times, comes_over, edge_of, floor, in_force,
+    is_chain,
+};
 use std::test::Fail;
 
 const REACH: i64 = 1_099_511_627_776;
@@ -154,19 +157,21 @@ fn words_of_links(rt: HostRuntime) {
         (Link::Floor { point: 127 }, 0x8000_007F),
         (Link::Posted, 0xC000_0000),
     ] {
-        assert_eq!(rt; link.word(), Some(word));
-        assert_eq!(rt; Link::of_word(word), Some(link));
+        assert_eq!(rt; u32::try_from(link), Ok(word));
+        assert_eq!(rt; Link::try_from(word), Ok(link));
     }
     assert_eq!(rt;
-        Link::Book {
+        u32::try_from(Link::Book {
             number: 0x4000_0000,
-        }
-        .word(),
-        None
+        }),
+        Err(NoWord)
     );
-    assert_eq!(rt; Link::Floor { point: 0xFFFF_FFFF }.word(), None);
+    assert_eq!(rt;
+        u32::try_from(Link::Floor { point: 0xFFFF_FFFF }),
+        Err(NoWord)
+    );
     for word in [0, 1, 0x3FFF_FFFF, 0xC000_0001, 0xFFFF_FFFF] {
-        assert_eq!(rt; Link::of_word(word), None);
+        assert_eq!(rt; Link::try_from(word), Err(NoLink));
     }
 }
 
