@@ -64,6 +64,7 @@ impl<'a> Fields<'a> {
     pub fn last_values<T: FromField, const N: usize>(&mut self) -> Result<[T; N], LineFault>
         ensures { HoldsJust T.reading N (left_of self.old) result }
     {
+        // Not an `ArrayVec<T, N>`: that its size fits could be said only by a `requires`.
         let mut values = [T::default(); N];
         for (before, value) in values.iter_mut().enumerate() {
             *value = self.value(before as u64 + 1)?;

@@ -76,6 +76,7 @@ fn digits_in(text: &[u8], base: u32) -> Option<u64>
     ensures value { result ≡ digits_after base 0 text.now }
     ensures bound { IfSome result (λ n. n < base ^ length text.now) }
 {
+    // A `try_fold` would check each step for an overflow that the bounds rule out, and be no shorter.
     let mut n = 0;
     for b in text {
         let d = digit_in(*b, base)?;
