@@ -9,8 +9,8 @@ loop-x-preserved g c =
     sum_goes_on g.met.D.Delay.lawful c.loop-x.invariant c.loop-x-test.true c.x-item.is c.in_ok-sum.ensures has (g.met.D.Delay.within c.in_ok-sum.sum)
 
 -- the sum that leaves the reach
-past : (g : _) (c : goal.After-from_residual g)
-    → g.D.Delay.kind.reach < g.D.Delay.kind.size (total_upto g.D.Delay.kind (λ x. g.D.Delay.means (g.T.HasDelay.delay_of x)) c.args.xs.now (c.loop-x.x-index + 1))
+past : (g : _) (c : goal.After-from_residual g) → let d = g.D.Delay in
+    d.kind.reach < d.kind.size (total_upto d.kind (λ x. d.means (g.T.HasDelay.delay_of x)) c.args.xs.now (c.loop-x.x-index + 1))
 past g c =
     let d = g.D.Delay in
     let has = ap d.means c.delay.ensures in
@@ -19,10 +19,12 @@ past g c =
 pub returns-in_err-sum-clause-sums : goal.returns-in_err-sum-clause-sums
 returns-in_err-sum-clause-sums g c =
     let d = g.D.Delay in
-    subst (Summed d.kind d.means (λ x. d.means (g.T.HasDelay.delay_of x)) c.args.xs.now) (sym c.from_residual.ensures) (c.loop-x.x-index + 1, omega arith, past g c)
+    let none = sym c.from_residual.ensures in
+    subst (Summed d.kind d.means (λ x. d.means (g.T.HasDelay.delay_of x)) c.args.xs.now) none (c.loop-x.x-index + 1, omega arith, past g c)
 
 pub returns-in_err-sum-clause-small : goal.returns-in_err-sum-clause-small
 returns-in_err-sum-clause-small g c few small =
-    let within = small_within g.met.D.Delay.lawful (λ x. g.D.Delay.means (g.T.HasDelay.delay_of x)) c.args.xs.now g.met.D.Delay.room few small (c.loop-x.x-index + 1) in
+    let d = g.met.D.Delay in
+    let within = small_within d.lawful (λ x. g.D.Delay.means (g.T.HasDelay.delay_of x)) c.args.xs.now d.room few small (c.loop-x.x-index + 1) in
     let never : ⊥ = omega (arith, past g c, within) in
     absurd never
