@@ -109,11 +109,19 @@ module _ {X : Type 0} (k : Kind) (means : X → Exact k) where
   cycle_empty [] e = (0, refl, apart_nil)
   cycle_empty (x ∷ xs) e = absurd (omega arith)
 
-  -- a closed row leads from its first left point back to it
-  pub closed_leads : (row : List (Edge X)) (e : Edge X) → 0 < length row → e ≡ get_or row 0 e → (p : ℕ) → Walk p (bounds_of k means row) p
-      → Walk e.left (bounds_of k means row) e.left
-  closed_leads [] e h is p w = absurd (omega arith)
-  closed_leads (x ∷ xs) e h is p w = subst (λ q. Walk q (bounds_of k means (x ∷ xs)) q) (sym w.0 ∙ ap (λ y. y.left) (sym is)) w
+  -- a row is a cycle where it leads from some point back to it, and its left points are apart
+  pub cycle_made : (row : List (Edge X)) (p : ℕ) → Walk p (bounds_of k means row) p → Apart (map (λ e. e.left) row) → Cycle k means row
+  cycle_made row p w a = (p, w, subst Apart (sym (lefts_are row)) a)
+
+  pub cycle_apart : (row : List (Edge X)) → Cycle k means row → Apart (map (λ e. e.left) row)
+  cycle_apart row c = subst Apart (lefts_are row) c.2
+
+  -- a cycle leads from its first left point back to it
+  pub cycle_leads : (row : List (Edge X)) (e : Edge X) → 0 < length row → e ≡ get_or row 0 e → Cycle k means row → Walk e.left (bounds_of k means row) e.left
+  cycle_leads [] e h is c = absurd (omega arith)
+  cycle_leads (x ∷ xs) e h is c = subst (λ q. Walk q (bounds_of k means (x ∷ xs)) q) (sym c.1.0 ∙ ap (λ y. y.left) (sym is)) c.1
+
+  pub ruleset cycle_steps = (cycle_empty, cycle_leads)
 
   -- sums within the reach are not past it
   pub not_past : (row : List (Edge X)) → ((n : ℕ) → n ≤ length row → Within k (sum_upto k means row n)) → PastReach k means row → ⊥

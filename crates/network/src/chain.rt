@@ -33,6 +33,7 @@ fn lefts_apart<D: Delay>(row: &[Edge<D>]) -> bool
 }
 
 // Whether the row is closed, with no left point twice.
+#[tactic(auto, using(crate::proofs::Checking::cycle_steps))]
 fn is_cycle<D: Delay>(row: &[Edge<D>]) -> bool
     ensures { Decides result (Cycle D.kind D.means row.now) }
 {
