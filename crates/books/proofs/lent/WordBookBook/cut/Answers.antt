@@ -6,11 +6,6 @@ use Rattle.books.proofs.Lents.{cut_bounds, cut_meaning}
 use Rattle.books.proofs.Replaced.{length-ended}
 use Rattle.books.proofs.lent.WordBookBook.cut.Goals as goal
 
-pub returns-then-k-self : goal.returns-then-k-self
-returns-then-k-self c =
-    let w = c.args.self.now in
-    (omega (arith, length-map-range_with_len (row_at w.words.now) w.counts.fixed w.counts.added), refl)
-
 pub invariant_of-self-2 : goal.invariant_of-self-2
 invariant_of-self-2 c =
     let w = c.args.self.now in
