@@ -1,5 +1,5 @@
 -- What adding and cutting make of the rows in lent words, and which rows an accepted buffer holds. Assumes nothing.
-use Rattle.std.proofs.Common.{◌≡◌, ℕ, zero, suc, ◌+◌, ◌-◌, ◌*◌, ◌<◌, ◌≤◌, ◌⊎◌, List, [], ◌∷◌, ◌++◌, length, get_or, take, drop, Ok, Result, sym, refl, ap, ◌∙◌, subst, inl, inr, arith}
+use Rattle.std.proofs.Common.{◌≡◌, ℕ, zero, suc, ◌+◌, ◌*◌, ◌<◌, ◌≤◌, ◌⊎◌, List, [], ◌∷◌, ◌++◌, length, get_or, take, drop, Ok, Err, Result, sym, refl, ap, ◌∙◌, subst, inl, inr, arith}
 use Rattle.std.proofs.lemmas.List.{length-take, length-append, take-take}
 use Rattle.std.proofs.lemmas.List.FromFn.{fill_by_all, map-range_with_len_more, take-map-range_with_len, length-map-range_with_len}
 use Rattle.std.proofs.lemmas.Bool.{cases_lt}
@@ -11,12 +11,13 @@ use Rattle.words.specs.Reading.{Holds, Checked}
 use Rattle.words.specs.declared.fault.WordFault.{WordFault}
 use Rattle.words.proofs.Readings.{law}
 use Rattle.words.proofs.Writings.{length-writing}
+use Rattle.books.specs.declared.lent.Counts.{Counts}
 use Rattle.books.specs.Meaning.{Meaning, with_bounds, cut_to}
 use Rattle.books.specs.Decoding.{taken_apart, OfBound, words_at, row_at, rows_from, BoundsIn}
-use Rattle.books.specs.Lent.{row_places, Opens, Opened, ended, row_put}
+use Rattle.books.specs.Lent.{row_places, rows_in, Fit, Opens, Opened, ended, row_put}
 use Rattle.books.proofs.Decodings.{own_row, own_words, same_words, same_bounds, same_rows, words_there}
 use Rattle.books.proofs.Meanings.{same_meaning}
-use Rattle.books.proofs.Replaced.{take-ended, take-row_put, take_with-row_put}
+use Rattle.books.proofs.Replaced.{length-ended, length-row_put, take-ended, take-row_put, take_with-row_put}
 
 -- one row more after n rows, and the end after it
 module _ (ws vs : List ℕ) (p n : ℕ) (row : Row) (room : 3 * p ≤ length ws) (free : n < p) (made : vs ≡ row_put p ws n row) where
@@ -39,29 +40,41 @@ module _ (ws vs : List ℕ) (p n : ℕ) (row : Row) (room : 3 * p ≤ length ws)
       map-range_with_len_more (row_at vs) f a n e ∙ ap (λ l. l ++ row_at vs n ∷ []) (same_rows ws vs n put_before f a (omega arith))
       ∙ ap (λ r. rows_from ws f a ++ r ∷ []) there
 
--- what these counts mean over the words
-abbrev pub counted : List ℕ → ℕ → ℕ → ℕ → Meaning
-counted ws p f a = record { fixed = rows_from ws 0 f; added = rows_from ws f a; free = p - (f + a) }
-
 -- what is added to a book with these counts, and what is kept of it
-module _ (ws vs : List ℕ) (p f a : ℕ) (room : 3 * p ≤ length ws) where
-  pub add_meaning : (row : Row) → f + a < p → vs ≡ row_put p ws (f + a) row → Sound row → counted vs p f (a + 1) ≡ with_bounds (counted ws p f a) (row ∷ [])
-  add_meaning row free made sound =
-      let before = put_before ws vs p (f + a) row room free made in
-      same_meaning _ _ (same_rows ws vs (f + a) before 0 f (omega arith)) (put_rows ws vs p (f + a) row room free made f a refl sound) (omega arith)
+module _ (ws vs : List ℕ) (c : Counts) (fit : Fit ws c) where
+  module _ (row : Row) (free : c.fixed + c.added < c.places) (made : vs ≡ row_put c.places ws (c.fixed + c.added) row) (sound : Sound row) where
+    pub add_fits : Fit vs (record c { added = c.added + 1 })
+    add_fits = record {
+      room = subst (λ n. 3 * c.places ≤ n) (sym (ap length made ∙ length-row_put c.places ws (c.fixed + c.added) row fit.room free)) fit.room;
+      few = fit.few;
+      held = omega arith;
+      bounds = put_bounds ws vs c.places (c.fixed + c.added) row fit.room free made fit.bounds sound _ (omega arith);
+    }
 
-  module _ (k : ℕ) (h : k ≤ a) (made : vs ≡ ended p ws (f + k)) where
-    cut_before : take (3 * (f + k)) vs ≡ take (3 * (f + k)) ws
-    cut_before = ap (take (3 * (f + k))) made ∙ take-ended p ws (f + k) room (3 * (f + k)) (omega arith)
+    pub add_meaning : rows_in vs (record c { added = c.added + 1 }) ≡ with_bounds (rows_in ws c) (row ∷ [])
+    add_meaning =
+        let n = c.fixed + c.added in
+        let before = put_before ws vs c.places n row fit.room free made in
+        same_meaning _ _ (same_rows ws vs n before 0 c.fixed (omega arith)) (put_rows ws vs c.places n row fit.room free made c.fixed c.added refl sound) (omega arith)
 
-    pub cut_bounds : BoundsIn ws (f + a) → BoundsIn vs (f + k)
-    cut_bounds bounds = same_bounds ws vs (f + k) cut_before (λ i l. bounds i (omega arith))
+  module _ (k : ℕ) (few : k ≤ c.added) (made : vs ≡ ended c.places ws (c.fixed + k)) where
+    cut_before : take (3 * (c.fixed + k)) vs ≡ take (3 * (c.fixed + k)) ws
+    cut_before = ap (take (3 * (c.fixed + k))) made ∙ take-ended c.places ws (c.fixed + k) fit.room (3 * (c.fixed + k)) (omega arith)
 
-    pub cut_meaning : f + a ≤ p → counted vs p f k ≡ cut_to (counted ws p f a) k
-    cut_meaning held =
-        let kept = same_rows ws vs (f + k) cut_before in
-        let many = length-map-range_with_len (row_at ws) f a in
-        same_meaning _ _ (kept 0 f (omega arith)) (kept f k (omega arith) ∙ sym (take-map-range_with_len (row_at ws) f a k h)) (omega arith)
+    pub cut_fits : Fit vs (record c { added = k })
+    cut_fits = record {
+      room = subst (λ n. 3 * c.places ≤ n) (sym (ap length made ∙ length-ended c.places ws (c.fixed + k) fit.room)) fit.room;
+      few = fit.few;
+      held = omega (arith, fit.held);
+      bounds = same_bounds ws vs (c.fixed + k) cut_before (λ i l. fit.bounds i (omega arith));
+    }
+
+    pub cut_meaning : rows_in vs (record c { added = k }) ≡ cut_to (rows_in ws c) k
+    cut_meaning =
+        let kept = same_rows ws vs (c.fixed + k) cut_before in
+        let many = length-map-range_with_len (row_at ws) c.fixed c.added in
+        same_meaning _ _ (kept 0 c.fixed (omega arith)) (kept c.fixed k (omega arith) ∙ sym (take-map-range_with_len (row_at ws) c.fixed c.added k few))
+        (omega (arith, fit.held))
 
 -- the words at a number of a writing
 word_in : (rows : List Row) (after : List ℕ) (i : ℕ) (r : Row) → i < length rows → words_at (writing rows ++ after) i ≡ row_words (get_or rows i r)
@@ -100,13 +113,19 @@ module _ (ws : List ℕ) where
   pub found_few : (n : ℕ) → Checked ws (Ok n) → n ≤ row_places (length ws)
   found_few n (whole, (rows, many, h)) = subst (λ k. k ≤ row_places (length ws)) many (held_few ws rows h)
 
-  pub found_bounds : (n m : ℕ) → Checked ws (Ok n) → m ≡ n → BoundsIn ws m
-  found_bounds n m (whole, (rows, many, h)) e = subst (BoundsIn ws) (many ∙ sym e) (held_bounds ws rows h)
+  pub found_fits : (n : ℕ) (c : Counts) → Checked ws (Ok n) → c.places ≡ row_places (length ws) → c.fixed ≡ n → c.added ≡ 0 → Fit ws c
+  found_fits n c (whole, (rows, many, h)) p f a =
+      let few = held_few ws rows h in
+      let all : length rows ≡ c.fixed + c.added = omega arith in
+      record { room = omega arith; few = omega arith; held = omega arith; bounds = subst (BoundsIn ws) all (held_bounds ws rows h) }
 
-  pub opens_rows : (n p : ℕ) → Checked ws (Ok n) → p ≡ row_places (length ws) → Opens ws (Ok n) (counted ws p n 0)
+  pub opens_rows : (n p : ℕ) → Checked ws (Ok n) → p ≡ row_places (length ws) → Opens ws (Ok n) (rows_in ws (record { places = p; fixed = n; added = 0 }))
   opens_rows n p (whole, (rows, many, h)) e =
       let same : rows_from ws 0 n ≡ rows = ap (rows_from ws 0) (sym many) ∙ held_rows ws rows h in
       (subst (λ xs. Holds xs (take 196605 ws)) (sym same) h, refl, ap length same ∙ many, omega arith)
+
+  pub opens_none : (e : WordFault) (c : Counts) → c.places ≡ 0 → c.fixed ≡ 0 → c.added ≡ 0 → Opens ws (Err e) (rows_in ws c)
+  opens_none e c p f a = same_meaning _ _ (ap (rows_from ws 0) f) (ap (rows_from ws c.fixed) a) (omega arith)
 
   -- whichever answer the check has, it is the one that was had
   pub opens_once : (q : Result ℕ WordFault) (m : Meaning) → Checked ws q → Opens ws q m → Opened ws m

@@ -67,13 +67,13 @@ module _ (ws : List ℕ) (whole : length ws % 3 ≡ 0) where
       let vs = v.words.now in
       let used = take 196605 vs in
       let n = v.counts.fixed + v.counts.added in
-      let few = v.counts.few in
-      let held = v.counts.held in
+      let few = v.fit.few in
+      let held = v.fit.held in
       let front : take (3 * n) used ≡ writing (bounds_of (meaning_of v))
-      = take-take (3 * n) 196605 vs (omega arith) ∙ bounds_written vs n v.bounds ∙ ap writing (sym (all_rows vs v.counts.fixed v.counts.added)) in
+      = take-take (3 * n) 196605 vs (omega arith) ∙ bounds_written vs n v.fit.bounds ∙ ap writing (sym (all_rows vs v.counts.fixed v.counts.added)) in
       record {
         holds = record {
-          sound = (words_proper vs v.counts v.bounds).sound;
+          sound = (words_proper vs v.counts v.fit).sound;
           after = drop (3 * n) used;
           cut = sym (take-append-drop (3 * n) used) ∙ ap (λ l. l ++ drop (3 * n) used) front;
           ends = get_or-drop (3 * n) used 0 0 ∙ ap (λ k. get_or used k 0) (omega arith) ∙ i.ends;
@@ -90,7 +90,7 @@ module _ (ws : List ℕ) (whole : length ws % 3 ≡ 0) where
       record {
         long = ap length same;
         beyond = ap (drop 196605) same;
-        places = omega (arith, w.counts.held);
+        places = omega (arith, w.fit.held);
         ends = ap (λ l. get_or (take 196605 l) (3 * (w.counts.fixed + w.counts.added)) 0) same ∙ ap (λ k. get_or (take 196605 ws) (3 * k) 0) count ∙ read.5;
       }
 
@@ -103,19 +103,19 @@ module _ (ws : List ℕ) (whole : length ws % 3 ≡ 0) where
       let p = b.counts.places in
       let n = b.counts.fixed + b.counts.added in
       let free : n < p = omega arith in
-      let room = b.room in
+      let room = b.fit.room in
       let long = i.long in
       let all = i.places in
-      let held = c.counts.held in
+      let held = c.fit.held in
       let fixed : c.counts.fixed ≡ b.counts.fixed = fixed_is c ∙ ap (λ x. length x.fixed) m ∙ sym (fixed_is b) in
       let added : c.counts.added ≡ b.counts.added + 1
       = added_is c ∙ ap (λ x. length x.added) m ∙ length_push (meaning_of b).added row ∙ ap (λ k. k + 1) (sym (added_is b)) in
       let left : c.counts.places - (c.counts.fixed + c.counts.added) ≡ p - n - 1 = ap (λ x. x.free) m in
       let mid = replaced vs (3 * n) (row_words row) in
-      let mid_long : length mid ≡ length ws = length-mid p vs n row b.room free ∙ long in
+      let mid_long : length mid ≡ length ws = length-mid p vs n row b.fit.room free ∙ long in
       record {
-        long = ap length made ∙ length-row_put p vs n row b.room free ∙ long;
-        beyond = ap (drop 196605) made ∙ drop-row_put p vs n row b.room free 196605 (omega arith) ∙ i.beyond;
+        long = ap length made ∙ length-row_put p vs n row b.fit.room free ∙ long;
+        beyond = ap (drop 196605) made ∙ drop-row_put p vs n row b.fit.room free 196605 (omega arith) ∙ i.beyond;
         places = omega arith;
         ends = (let count : c.counts.fixed + c.counts.added ≡ n + 1 = omega arith in ap (λ k. get_or (take 196605 us) (3 * k) 0) count)
             ∙ ends_there mid p (n + 1) (ap (λ k. k % 3) mid_long ∙ whole) (all ∙ ap row_places (sym mid_long)) (omega arith) us made;
@@ -127,11 +127,11 @@ module _ (ws : List ℕ) (whole : length ws % 3 ≡ 0) where
       let us = c.words.now in
       let p = b.counts.places in
       let n = b.counts.fixed + k in
-      let room = b.room in
+      let room = b.fit.room in
       let long = i.long in
       let all = i.places in
-      let few = b.counts.held in
-      let held = c.counts.held in
+      let few = b.fit.held in
+      let held = c.fit.held in
       let many = added_is b in
       let some : n ≤ p = omega arith in
       let fixed : c.counts.fixed ≡ b.counts.fixed = fixed_is c ∙ ap (λ x. length x.fixed) m ∙ sym (fixed_is b) in

@@ -1,16 +1,24 @@
 -- A book over lent words: what it means, and what its calls write. Assumes nothing.
-use Rattle.std.specs.Prelude.{◌≡◌, ℕ, ◌+◌, ◌-◌, ◌*◌, ◌/◌, min, cond, List, [], ◌∷◌, ◌++◌, length, take, drop, Ok, Err, Result, nat_lt}
+use Rattle.std.specs.Prelude.{◌≡◌, ℕ, ◌+◌, ◌-◌, ◌*◌, ◌/◌, ◌≤◌, min, cond, List, [], ◌∷◌, ◌++◌, length, take, drop, Ok, Err, Result, nat_lt}
 use Rattle.bounds.specs.declared.row.Row.{Row}
 use Rattle.words.specs.declared.fault.WordFault.{WordFault}
 use Rattle.words.specs.Words.{row_words}
 use Rattle.words.specs.Reading.{Holds, Checked}
-use Rattle.books.specs.declared.lent.counts.Counts.{Counts}
+use Rattle.books.specs.declared.lent.Counts.{Counts}
 use Rattle.books.specs.Meaning.{Meaning}
-use Rattle.books.specs.Decoding.{rows_from}
+use Rattle.books.specs.Decoding.{BoundsIn, rows_from}
 
 -- how many rows so many words have place for: those past the first 196,605 words are left alone
 abbrev pub row_places : ℕ → ℕ
 row_places words = min (words / 3) 65535
+
+-- these counts fit the words: the words have room for the places, of which there are at most 65,535, and each row, fixed or added,
+-- has a place and is that of a bound
+pub record Fit (ws : List ℕ) (c : Counts) : Type 0 where
+  pub room : 3 * c.places ≤ length ws
+  pub few : c.places ≤ 65535
+  pub held : c.fixed + c.added ≤ c.places
+  pub bounds : BoundsIn ws (c.fixed + c.added)
 
 -- what these counts mean over the words: the fixed rows come first, then the added ones; the places after those are free
 abbrev pub rows_in : List ℕ → Counts → Meaning

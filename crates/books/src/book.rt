@@ -48,7 +48,7 @@ pub trait Book {
         ensures { Adding meaning adds self.old (row_of bound) self.new result };
 
     // Keeps the first `k` added bounds and frees the places of the others: yes; or no exactly when there are fewer than `k`,
-    // and then nothing changes.
+    // and then nothing changes. The answer is no `Err`, since every error tells a fault, and there is none for this.
     fn cut(&mut self, k: usize) -> bool
         ensures { Cutting meaning cuts self.old k self.new result };
 

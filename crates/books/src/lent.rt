@@ -1,15 +1,21 @@
 ghost use Rattle.std.specs.Prelude.{◌≡◌, ◌+◌, ◌*◌, ◌<◌, ◌≤◌, length};
 ghost use Rattle.bounds.specs.Making.{row_of};
-ghost use Rattle.books.specs.Decoding.{BoundsIn, OfBound, taken_apart};
-ghost use Rattle.books.specs.Lent.{ended, row_put};
+ghost use Rattle.books.specs.Decoding.{OfBound, taken_apart};
+ghost use Rattle.books.specs.Lent.{Fit, Opened, ended, row_places, row_put, rows_in};
 
-use crate::book::Book;
+use crate::book::{Book, MOST};
 use crate::fault::BookFault;
-use crate::lent::counts::Counts;
 use bounds::Bound;
-use words::BoundWords;
+use words::{BoundWords, check};
 
-mod counts;
+// How many rows there is place for, how many were found at opening, and how many were added since. What holds of them stands in
+// the book: were a struct with a ghost field inside it, the borrow checker would not cover functions of a trial over it.
+#[derive(Clone, Copy, Default)]
+struct Counts {
+    places: usize,
+    fixed: usize,
+    added: usize,
+}
 
 // The word book: bounds in house words that the caller lends. It keeps its rows where they are: the fixed ones, then the added
 // ones, then a zero head where there is a place for it.
@@ -17,8 +23,29 @@ mod counts;
 pub struct WordBook<'a> {
     words: &'a mut [u32],
     counts: Counts,
-    ghost room: { 3 * counts.places ≤ length words.now },
-    ghost bounds: { BoundsIn words.now (counts.fixed + counts.added) },
+    ghost fit: { Fit words.now counts },
+}
+
+// How many rows so many words have place for.
+fn rows_within(words: usize) -> usize
+    ensures { result ≡ row_places words }
+{
+    (words / 3).min(MOST)
+}
+
+// The counts over words that are just opened: no row and no place where the check refuses them.
+fn found(words: &[u32]) -> Counts
+    ensures fit { Fit words.now result }
+    ensures opened { Opened words.now (rows_in words.now result) }
+{
+    let Ok(fixed) = check(words) else {
+        return Counts::default();
+    };
+    Counts {
+        places: rows_within(words.len()),
+        fixed,
+        added: 0,
+    }
 }
 
 // The bound that has these words.
@@ -50,7 +77,6 @@ fn put_bound(words: &mut [u32], places: usize, n: usize, bound: Bound)
 }
 
 impl<'a> WordBook<'a> {
-    ghost use Rattle.books.specs.Lent.{Opened};
     ghost use Rattle.books.specs.Held.{meaning_of, StaysWritten};
 
     // A book over lent words, which never refuses. Have the words checked first: the rows that `words::check` finds are fixed,
@@ -61,8 +87,14 @@ impl<'a> WordBook<'a> {
         ensures opened { Opened words.old (meaning_of result) }
         ensures stays { StaysWritten words.old result }
     {
-        let counts = Counts::found(words);
+        let counts = found(words);
         WordBook { words, counts }
+    }
+
+    fn rows(&self) -> usize
+        ensures { result ≡ self.now.counts.fixed + self.now.counts.added }
+    {
+        self.counts.fixed + self.counts.added
     }
 }
 
@@ -86,18 +118,18 @@ impl<'a> Book for WordBook<'a> {
     }
 
     fn free_count(&self) -> usize {
-        self.counts.free()
+        self.counts.places - self.rows()
     }
 
     fn read(&self, i: usize) -> Option<Bound> {
         let (rows, _) = self.words.as_chunks::<3>();
-        let row = rows[..self.counts.rows()].get(i)?;
+        let row = rows[..self.rows()].get(i)?;
         Some(bound_in(*row))
     }
 
     fn add(&mut self, bound: Bound) -> Result<(), BookFault> {
+        let n = self.rows();
         let places = self.counts.places;
-        let n = self.counts.rows();
         if n == places {
             return Err(BookFault::Full);
         }
@@ -110,10 +142,11 @@ impl<'a> Book for WordBook<'a> {
         if k > self.counts.added {
             return false;
         }
+        let n = self.counts.fixed + k;
+        put_end(self.words, self.counts.places, n);
         self.counts.added = k;
-        put_end(self.words, self.counts.places, self.counts.rows());
         true
     }
 
-    ghost proper = { λ w. words_proper w.words.now w.counts w.bounds };
+    ghost proper = { λ w. words_proper w.words.now w.counts w.fit };
 }

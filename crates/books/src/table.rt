@@ -19,7 +19,7 @@ pub struct Table {
 impl Table {
     // A table with no bound.
     pub fn new() -> Table
-        ensures { table_of (listed result.rows) ≡ table_of [] }
+        ensures { ⟦<Table as Book>⟧.meaning result ≡ table_of [] }
     {
         Table { rows: Rows::new() }
     }

@@ -23,7 +23,7 @@ impl<B: Book> Trial<B> {
     // A trial over a book, with nothing added yet. Whatever calls it then goes through, the book below stays the same.
     pub fn lay(below: B) -> Trial<B>
         ensures below { result.below ≡ below }
-        ensures empty { trial_over (B.meaning result.below) (listed result.own) ≡ trial_over (B.meaning below) [] }
+        ensures empty { ⟦<Trial<B> as Book>⟧.meaning result ≡ trial_over (B.meaning below) [] }
         ensures kept { Keeps ⟦<Trial<B> as Book>⟧.meaning ⟦<Trial<B> as Book>⟧.adds ⟦<Trial<B> as Book>⟧.cuts (λ t. t.below) }
     {
         Trial {

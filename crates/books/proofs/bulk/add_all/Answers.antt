@@ -1,4 +1,4 @@
-use Rattle.std.proofs.Common.{refl, arith}
+use Rattle.std.proofs.Common.{refl, arith, rules}
 use Rattle.std.proofs.lemmas.List.{length-map}
 use Rattle.bounds.specs.Making.{row_of}
 use Rattle.books.proofs.Bulks.{added_none, added_more, never_full, added_all}
@@ -13,15 +13,12 @@ loop-bound-init g c = added_none _ _ _ _ (omega arith)
 pub loop-bound-preserved : goal.loop-bound-preserved
 loop-bound-preserved g c =
     let added = c.in_ok-add.ensures in
-    added_more g.B.Book.meaning g.B.Book.adds c.args.book.now c.args.bounds.now c.loop-bound.bound-index c.loop-bound.book c.add.new.self
-    c.bound-item.result c.loop-bound-test.true c.bound-item.is c.loop-bound.invariant added.1 added.2
+    let is = c.bound-item.is in
+    search (rules, added_more)
 
 pub returns-in_err-add : goal.returns-in_err-add
 returns-in_err-add g c =
-    absurd (never_full g.B.Book.meaning g.B.Book.adds c.args.book.now c.args.bounds.now c.loop-bound.bound-index c.loop-bound.book
-    c.add.new.self (row_of c.bound-item.result) c.in_err-add.field-0.0 c.loop-bound-test.true c.loop-bound.invariant c.in_err-add.ensures)
+    absurd (never_full _ _ _ _ _ _ _ (row_of c.bound-item.result) _ c.loop-bound-test.true c.loop-bound.invariant c.in_err-add.ensures)
 
 pub returns : goal.returns
-returns g c =
-    added_all g.B.Book.meaning g.B.Book.adds c.args.book.now c.args.bounds.now c.loop-bound.bound-index c.loop-bound.book
-    c.loop-bound-test.false c.loop-bound.invariant
+returns g c = added_all _ _ _ _ _ _ c.loop-bound-test.false c.loop-bound.invariant

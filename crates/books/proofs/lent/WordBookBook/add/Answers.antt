@@ -1,30 +1,20 @@
-use Rattle.std.proofs.Common.{◌≡◌, ◌+◌, ◌<◌, length, refl, ap, ◌∙◌, arith}
+use Rattle.std.proofs.Common.{◌+◌, ◌<◌, refl, ap, ◌∙◌, arith}
 use Rattle.books.specs.Lent.{row_put}
-use Rattle.books.proofs.Lents.{add_meaning, put_bounds}
-use Rattle.books.proofs.Replaced.{length-row_put}
+use Rattle.books.proofs.Lents.{add_fits, add_meaning}
 use Rattle.books.proofs.lent.WordBookBook.add.Goals as goal
 
-pub invariant_of-self-2 : goal.invariant_of-self-2
-invariant_of-self-2 c =
+pub invariant_of-self : goal.invariant_of-self
+invariant_of-self c =
     let w = c.args.self.now in
-    let ws = w.words.now in
-    let n = w.counts.fixed + w.counts.added in
     let row = c.args.bound.row in
-    let free : n < w.counts.places = omega (arith, w.counts.held) in
-    let made : c.put_bound.new.words ≡ row_put w.counts.places ws n row
-    = c.put_bound.ensures ∙ ap (λ k. row_put w.counts.places ws k row) c.rows-n.ensures in
-    let room = w.room in record {
-      room = omega (arith, ap length made ∙ length-row_put w.counts.places ws n row w.room free);
-      bounds = put_bounds ws _ w.counts.places n row w.room free made w.bounds c.args.bound.sound _ (omega arith);
-    }
+    let free : w.counts.fixed + w.counts.added < w.counts.places = omega (arith, w.fit.held) in
+    let made = c.put_bound.ensures ∙ ap (λ n. row_put w.counts.places w.words.now n row) c.rows-n.ensures in
+    record { fit = add_fits w.words.now _ w.counts w.fit row free made c.args.bound.sound }
 
 pub returns : goal.returns
 returns c =
     let w = c.args.self.now in
-    let ws = w.words.now in
-    let n = w.counts.fixed + w.counts.added in
     let row = c.args.bound.row in
-    let free : n < w.counts.places = omega (arith, w.counts.held) in
-    let made : c.put_bound.new.words ≡ row_put w.counts.places ws n row
-    = c.put_bound.ensures ∙ ap (λ k. row_put w.counts.places ws k row) c.rows-n.ensures in
-    (omega arith, add_meaning ws _ w.counts.places w.counts.fixed w.counts.added w.room row free made c.args.bound.sound, (refl, made))
+    let free : w.counts.fixed + w.counts.added < w.counts.places = omega (arith, w.fit.held) in
+    let made = c.put_bound.ensures ∙ ap (λ n. row_put w.counts.places w.words.now n row) c.rows-n.ensures in
+    (omega arith, add_meaning w.words.now _ w.counts w.fit row free made c.args.bound.sound, (refl, made))

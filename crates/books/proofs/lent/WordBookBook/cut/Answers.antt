@@ -1,32 +1,15 @@
-use Rattle.std.proofs.Common.{◌≡◌, ◌+◌, length, refl, ap, ◌∙◌, arith}
-use Rattle.std.proofs.lemmas.List.FromFn.{length-map-range_with_len}
-use Rattle.books.specs.Decoding.{row_at}
-use Rattle.books.specs.Lent.{ended}
-use Rattle.books.proofs.Lents.{cut_bounds, cut_meaning}
-use Rattle.books.proofs.Replaced.{length-ended}
+use Rattle.std.proofs.Common.{refl, arith}
+use Rattle.books.proofs.Decodings.{row_count}
+use Rattle.books.proofs.Lents.{cut_fits, cut_meaning}
 use Rattle.books.proofs.lent.WordBookBook.cut.Goals as goal
 
-pub returns-then-k-self : goal.returns-then-k-self
-returns-then-k-self c =
+pub invariant_of-self : goal.invariant_of-self
+invariant_of-self c =
     let w = c.args.self.now in
-    (omega (arith, length-map-range_with_len (row_at w.words.now) w.counts.fixed w.counts.added), refl)
-
-pub invariant_of-self-2 : goal.invariant_of-self-2
-invariant_of-self-2 c =
-    let w = c.args.self.now in
-    let ws = w.words.now in
-    let made : c.put_end.new.words ≡ ended w.counts.places ws (w.counts.fixed + c.args.k)
-    = c.put_end.ensures ∙ ap (ended w.counts.places ws) c.rows.ensures in
-    let room = w.room in record {
-      room = omega (arith, ap length made ∙ length-ended w.counts.places ws (w.counts.fixed + c.args.k) w.room);
-      bounds = cut_bounds ws _ w.counts.places w.counts.fixed w.counts.added w.room c.args.k (omega arith) made w.bounds;
-    }
+    record { fit = cut_fits w.words.now _ w.counts w.fit c.args.k (omega arith) c.put_end.ensures }
 
 pub returns : goal.returns
 returns c =
     let w = c.args.self.now in
-    let ws = w.words.now in
-    let many = length-map-range_with_len (row_at ws) w.counts.fixed w.counts.added in
-    let made : c.put_end.new.words ≡ ended w.counts.places ws (w.counts.fixed + c.args.k)
-    = c.put_end.ensures ∙ ap (ended w.counts.places ws) c.rows.ensures in
-    (omega (arith, many), cut_meaning ws _ w.counts.places w.counts.fixed w.counts.added w.room c.args.k (omega arith) made w.counts.held, (refl, made))
+    let many = row_count w.words.now w.counts.fixed w.counts.added in
+    (omega (arith, many), cut_meaning w.words.now _ w.counts w.fit c.args.k (omega arith) c.put_end.ensures, (refl, c.put_end.ensures))

@@ -12,7 +12,7 @@ returns-in_err-row c =
     let none = c.in_err-row.ensures.lookup in
     let few = length-take c.rows.result c.as_chunks.result.0.now in
     let long = c.as_chunks.ensures.front_len in
-    let past : w.counts.fixed + w.counts.added ≤ c.args.i = omega (arith, none.3, w.room, w.counts.held) in
+    let past : w.counts.fixed + w.counts.added ≤ c.args.i = omega (arith, none.3, w.fit.room, w.fit.held) in
     ap (option_map row_of) c.from_residual.ensures ∙ sym (row_past w.words.now w.counts.fixed w.counts.added c.args.i past)
 
 pub bound_in-requires : goal.bound_in-requires
@@ -22,7 +22,7 @@ bound_in-requires c =
     let few = length-take c.rows.result c.as_chunks.result.0.now in
     let is : c.in_ok-row.row.now ≡ words_at w.words.now c.args.i
     = chunk_found _ _ _ _ _ c.as_chunks.ensures.front c.as_chunks.ensures.front_len found.3.0 found.1 in
-    subst OfBound (sym is) (w.bounds c.args.i (omega arith))
+    subst OfBound (sym is) (w.fit.bounds c.args.i (omega arith))
 
 pub returns : goal.returns
 returns c =
