@@ -1,20 +1,20 @@
 -- That the table and the trial are books: their places, and their rows. Assumes nothing.
-use Rattle.std.specs.Prelude.{◌≤◌, length}
+use Rattle.std.specs.Prelude.{◌≤◌, List, length}
+use Rattle.std.specs.List.{All}
 use Rattle.std.proofs.Common.{arith}
 use Rattle.std.proofs.lemmas.List.{length-append}
 use Rattle.std.proofs.lemmas.List.Elements.{All-append}
+use Rattle.bounds.specs.declared.row.Row.{Row}
 use Rattle.bounds.specs.Range.{Sound}
-use Rattle.books.specs.declared.rows.Rows.{Rows}
 use Rattle.books.specs.Meaning.{Meaning, Proper, bounds_of}
 use Rattle.books.specs.Layers.{table_of, trial_places, trial_over}
-use Rattle.books.specs.Listed.{listed}
 
-pub table_proper : (r : Rows 1024) → Proper (table_of (listed r))
-table_proper r = record { few = omega (arith, r.few); sound = r.sound }
+pub table_proper : (rows : List Row) → length rows ≤ 1024 → All Sound rows → Proper (table_of rows)
+table_proper rows few sound = record { few = omega arith; sound = sound }
 
-pub trial_proper : (below : Meaning) (own : Rows 64) → length (listed own) ≤ trial_places below → Proper below
-    → Proper (trial_over below (listed own))
-trial_proper below own fits h = record {
-  few = omega (arith, length-append (bounds_of below) (listed own), h.few);
-  sound = All-append Sound _ _ h.sound own.sound;
+pub trial_proper : (below : Meaning) (own : List Row) → length own ≤ trial_places below → All Sound own → Proper below
+    → Proper (trial_over below own)
+trial_proper below own fits sound h = record {
+  few = omega (arith, length-append (bounds_of below) own, h.few);
+  sound = All-append Sound _ _ h.sound sound;
 }

@@ -7,12 +7,11 @@ ghost use Rattle.bounds.specs.Range.{Sound};
 use arrayvec::ArrayVec;
 use bounds::{Bound, Row};
 
-// Up to N bounds as plain rows: the inner table of the books that keep bounds of their own.
+// Up to N plain rows: the inner table of the books that keep bounds of their own. That the rows are those of bounds is a ghost field
+// of those books: over lent words, a struct with a ghost field inside a book would keep the book from being moved into another.
 #[derive(Drop)]
 pub struct Rows<const N: usize> {
     rows: ArrayVec<Row, N>,
-    ghost few: { length rows.items ≤ N },
-    ghost sound: { All Sound rows.items },
 }
 
 impl<const N: usize> Rows<N> {
@@ -34,6 +33,7 @@ impl<const N: usize> Rows<N> {
 
     // The bound of the row with the number `i`, or nothing exactly when there is none.
     pub(crate) fn read(&self, i: usize) -> Option<Bound>
+        requires { All Sound (listed self.now) }
         ensures { option_map row_of result ≡ slice_get (listed self.now) i }
     {
         self.rows.get(i).map(|row| Bound::try_from(*row).unwrap())

@@ -1,4 +1,6 @@
-ghost use Rattle.std.specs.Prelude.{◌≡◌, [], length};
+ghost use Rattle.std.specs.Prelude.{◌≡◌, ◌≤◌, [], length};
+ghost use Rattle.std.specs.List.{All};
+ghost use Rattle.bounds.specs.Range.{Sound};
 ghost use Rattle.books.specs.Listed.{listed};
 ghost use Rattle.books.specs.Layers.{table_of};
 ghost use Rattle.books.specs.Laws.{table_proper};
@@ -14,6 +16,8 @@ const PLACES: usize = 1_024;
 #[derive(Drop)]
 pub struct Table {
     rows: Rows<PLACES>,
+    ghost few: { length (listed rows) ≤ 1024 },
+    ghost sound: { All Sound (listed rows) },
 }
 
 impl Table {
@@ -72,5 +76,5 @@ impl Book for Table {
         true
     }
 
-    ghost proper = { λ t. table_proper t.rows };
+    ghost proper = { λ t. table_proper (listed t.rows) t.few t.sound };
 }

@@ -1,4 +1,6 @@
 ghost use Rattle.std.specs.Prelude.{◌≡◌, ◌≤◌, [], length};
+ghost use Rattle.std.specs.List.{All};
+ghost use Rattle.bounds.specs.Range.{Sound};
 ghost use Rattle.books.specs.Listed.{listed};
 ghost use Rattle.books.specs.Layers.{BelowSame, trial_over, trial_places};
 ghost use Rattle.books.specs.Laws.{trial_proper};
@@ -16,6 +18,7 @@ const PLACES: usize = 64;
 pub struct Trial<B: Book> {
     below: B,
     own: Rows<PLACES>,
+    ghost sound: { All Sound (listed own) },
     ghost fits: { length (listed own) ≤ trial_places (B.meaning below) },
 }
 
@@ -87,5 +90,5 @@ impl<B: Book> Book for Trial<B> {
         true
     }
 
-    ghost proper = { λ t. trial_proper (B.meaning t.below) t.own t.fits (B.proper t.below) };
+    ghost proper = { λ t. trial_proper (B.meaning t.below) (listed t.own) t.fits t.sound (B.proper t.below) };
 }

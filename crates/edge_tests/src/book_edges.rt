@@ -181,6 +181,21 @@ fn a_trial_over_words(rt: HostRuntime) -> Result<(), Fail> {
     Ok(())
 }
 
+// A trial on a trial over lent words, moved as a whole.
+#[test]
+fn trials_on_trials_over_words(rt: HostRuntime) -> Result<(), Fail> {
+    let mut words = [0, 7, 7];
+    let mut first = Trial::lay(WordBook::open(&mut words));
+    fill(&mut first, 0, 1)?;
+    let mut second = Trial::lay(first);
+    assert_eq!(rt; counts(&second), (1, 0, 64));
+    fill(&mut second, 1, 2)?;
+    assert_eq!(rt; second.read(1), Some(bound(1)?));
+    assert_eq!(rt; counts(&second.lift().lift()), (0, 0, 1));
+    assert_eq!(rt; words, [0, 7, 7]);
+    Ok(())
+}
+
 #[test]
 fn the_most_bounds(rt: HostRuntime) -> Result<(), Fail> {
     let mut words = Vec::new(rt.alloc());
