@@ -17,7 +17,7 @@ fn never_leaves<D: Delay>(row: &[Edge<D>], point: usize) -> bool
     row.iter().all(|edge| edge.left != point)
 }
 
-// Whether no left point comes twice.
+// Whether no left point comes twice. A loop, since a call for each edge would take stack.
 #[tactic(auto, using(crate::proofs::Checking::apart_steps))]
 fn lefts_apart<D: Delay>(row: &[Edge<D>]) -> bool
     ensures { Decides result (Apart (map (λ e. e.left) row.now)) }
