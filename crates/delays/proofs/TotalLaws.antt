@@ -56,7 +56,8 @@ module _ {k : Kind} (laws : Lawful k) where
     abbrev IsSmall : Y → Type 0
     IsSmall x = k.size (each x) ≤ k.greatest
 
-    total_size : (row : List Y) → All IsSmall row → k.size (total k (map each row)) ≤ length row * k.greatest
+    -- the size of a sum is at most the greatest for each one
+    pub total_size : (row : List Y) → All IsSmall row → k.size (total k (map each row)) ≤ length row * k.greatest
     total_size [] h = omega (arith, laws.size_zero)
     total_size (x ∷ row) h =
         let here : k.size (each x) ≤ k.greatest = All-head IsSmall x row h in

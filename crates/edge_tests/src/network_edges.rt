@@ -193,3 +193,18 @@ fn edges_of_links(rt: HostRuntime) -> Result<(), Fail> {
     );
     Ok(())
 }
+
+#[test]
+fn errors_are_told(rt: HostRuntime) -> Result<(), Fail> {
+    let told = format!(in rt.alloc();
+        "{} / {} / {}",
+        NoWord,
+        NoLink,
+        Mismatch::Reach { number: 17 }
+    )?;
+    assert_eq!(rt;
+        told.as_str(),
+        "the number of the link is 2^30 or more / no link has this word / the limit of edge 17 is past the reach"
+    );
+    Ok(())
+}

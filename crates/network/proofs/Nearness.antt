@@ -1,10 +1,11 @@
 -- Paths are short, so earliest times are near zero. Assumes nothing.
-use Rattle.std.proofs.Common.{◌*◌, ◌<◌, ◌≤◌, [], ◌∷◌, map, length, ap, mul-le-mul_right, suc-mul, arith}
+use Rattle.std.proofs.Common.{◌<◌, ◌≤◌, map, length, ap, mul-le-mul_right, arith}
 use Rattle.std.proofs.lemmas.List.{length-map}
 use Rattle.std.specs.List.{All, Contains}
-use Rattle.std.proofs.lemmas.List.Elements.{All-contains, All-map, All-weaker, All-head, All-tail, All-cons}
+use Rattle.std.proofs.lemmas.List.Elements.{All-contains, All-map, All-weaker, All-cons}
+use Rattle.delays.proofs.TotalLaws.{total_size}
 use Rattle.delays.specs.Kind.{Kind, Lawful}
-use Rattle.network.specs.Bounds.{ExactBound, Bounds, Inside}
+use Rattle.network.specs.Bounds.{ExactBound, Inside}
 use Rattle.network.specs.Walks.{sum_of, stops, PathShort}
 use Rattle.network.specs.Earliest.{EarliestNear}
 use Rattle.network.proofs.Counting.{apart_length}
@@ -23,17 +24,10 @@ module _ {k : Kind} (laws : Lawful k) where
   abbrev IsSmall : ExactBound k → Type 0
   IsSmall b = k.size b.delay ≤ k.greatest
 
-  -- the size of a sum is at most the greatest for each bound
-  sum_size : (row : Bounds k) → All IsSmall row → k.size (sum_of k row) ≤ length row * k.greatest
-  sum_size [] h = omega (arith, laws.size_zero)
-  sum_size (b ∷ bs) h =
-      let here : k.size b.delay ≤ k.greatest = All-head IsSmall b bs h in
-      omega (arith, laws.size_sum b.delay (sum_of k bs), sum_size bs (All-tail IsSmall b bs h), suc-mul (length bs) k.greatest)
-
   pub earliest_near : EarliestNear k
   earliest_near n edges inside small some p x e =
       let row = e.row in
       let short : length row < n = path_short n edges inside 0 p some row e.path in
       let few : length row ≤ n = omega arith in
       let each = All-weaker (Contains edges) IsSmall (λ b. All-contains IsSmall edges b small) row e.path.held in
-      omega (arith, ap k.size e.value, laws.size_opposite (sum_of k row), sum_size row each, mul-le-mul_right k.greatest few)
+      omega (arith, ap k.size e.value, laws.size_opposite (sum_of k row), total_size laws (λ b. b.delay) row each, mul-le-mul_right k.greatest few)
