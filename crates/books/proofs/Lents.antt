@@ -132,4 +132,4 @@ module _ (ws : List ℕ) where
   opens_once q m h o r g = subst (λ x. Opens ws x m) (law.one_answer ws q r h g) o
 
 -- what the calls of a word book are proved by
-pub ruleset book_rows = (row_count, add_fits, add_meaning, cut_fits, cut_meaning)
+pub ruleset book_rows = (row_count, add_fits, add_meaning, cut_fits)
