@@ -15,7 +15,7 @@ use Rattle.books.specs.declared.lent.Counts.{Counts}
 use Rattle.books.specs.Meaning.{Meaning, with_bounds, cut_to}
 use Rattle.books.specs.Decoding.{taken_apart, OfBound, words_at, row_at, rows_from, BoundsIn}
 use Rattle.books.specs.Lent.{row_places, rows_in, Fit, Opens, Opened, ended, row_put}
-use Rattle.books.proofs.Decodings.{own_row, own_words, same_words, same_bounds, same_rows, words_there}
+use Rattle.books.proofs.Decodings.{row_count, own_row, own_words, same_words, same_bounds, same_rows, words_there}
 use Rattle.books.proofs.Meanings.{same_meaning}
 use Rattle.books.proofs.Replaced.{length-ended, length-row_put, take-ended, take-row_put, take_with-row_put}
 
@@ -130,3 +130,6 @@ module _ (ws : List ℕ) where
   -- whichever answer the check has, it is the one that was had
   pub opens_once : (q : Result ℕ WordFault) (m : Meaning) → Checked ws q → Opens ws q m → Opened ws m
   opens_once q m h o r g = subst (λ x. Opens ws x m) (law.one_answer ws q r h g) o
+
+-- what the calls of a word book are proved by
+pub ruleset book_rows = (row_count, add_fits, add_meaning, cut_fits)

@@ -98,7 +98,7 @@ impl<'a> WordBook<'a> {
     }
 }
 
-#[tactic(auto, using(crate::proofs::Decodings::row_count))]
+#[tactic(auto, using(crate::proofs::Lents::book_rows))]
 impl<'a> Book for WordBook<'a> {
     ghost use Rattle.books.specs.Held.{meaning_of, RowAdded, RowsCut};
     ghost use Rattle.books.specs.WordLaws.{words_proper};

@@ -1,12 +1,7 @@
 use Rattle.std.proofs.Common.{refl, arith}
 use Rattle.books.proofs.Decodings.{row_count}
-use Rattle.books.proofs.Lents.{cut_fits, cut_meaning}
+use Rattle.books.proofs.Lents.{cut_meaning}
 use Rattle.books.proofs.lent.WordBookBook.cut.Goals as goal
-
-pub invariant_of-self : goal.invariant_of-self
-invariant_of-self c =
-    let w = c.args.self.now in
-    record { fit = cut_fits w.words.now _ w.counts w.fit c.args.k (omega arith) c.put_end.ensures }
 
 pub returns : goal.returns
 returns c =
