@@ -37,6 +37,8 @@ impl Default for Table {
     }
 }
 
+// Its `add` and `cut` are alike with those of a trial. In the inner table, as one for both, they would promise of the rows alone, and each
+// book's promise that a refusal changes nothing would need a proof by hand.
 impl Book for Table {
     ghost meaning = { λ t. table_of (listed t.rows) };
 

@@ -7,7 +7,8 @@ use std::error::Error;
 use std::fmt;
 use std::str::FromStr;
 
-// What the tool does with each line that holds a bound.
+// What the tool does with each line that holds a bound. The four places that ask which task it is stay matches: a closure in its place
+// would need a condition on the caller, that it may be called, and no public function of the library has one.
 #[derive(Clone, Copy, PartialEq, Eq, Debug)]
 pub enum Task {
     // print the words of the line's bound
