@@ -48,7 +48,8 @@ pub trait Book {
         ensures { Adding meaning adds self.old (row_of bound) self.new result };
 
     // Keeps the first `k` added bounds and frees the places of the others: yes; or no exactly when there are fewer than `k`,
-    // and then nothing changes. The answer is no `Err`, since every error tells a fault, and there is none for this.
+    // and then nothing changes. A yes or no, as a set of the library
+    // answers `insert`: a caller can see beforehand that there are fewer, and nothing is given back.
     fn cut(&mut self, k: usize) -> bool
         ensures { Cutting meaning cuts self.old k self.new result };
 

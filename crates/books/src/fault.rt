@@ -12,8 +12,8 @@ pub enum BookFault {
     Full,
 }
 
-// Fault 9 of layer B, which names no place. It is alike with those of other layers with one fault: one conversion for the enums of all layers would
-// overlap with the library's own, of each type to itself.
+// Fault 9 of layer B, which names no place. It is alike with those of other layers: one conversion for all would be over a trait that asks each enum for
+// its number, layer and place, which is what the conversions are.
 impl From<BookFault> for Fault {
     ghost from_gives = { λ e r. r ≡ fault_of e };
 

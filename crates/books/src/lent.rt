@@ -9,7 +9,7 @@ use bounds::Bound;
 use words::{BoundWords, check};
 
 // How many rows there is place for, how many were found at opening, and how many were added since. What holds of them stands in
-// the book: were a struct with a ghost field inside it, the borrow checker would not cover functions of a trial over it.
+// the book: over lent words, a book that holds a struct with a ghost field can't be moved into another book.
 #[derive(Clone, Copy, Default)]
 struct Counts {
     places: usize,
@@ -56,7 +56,8 @@ fn bound_in(row: [u32; 3]) -> Bound
     Bound::try_from(BoundWords(row)).unwrap()
 }
 
-// Puts a zero head after `n` rows, where there is a place for it.
+// Puts a zero head after `n` rows, where there is a place for it. It takes the words, and not the book, whose fact does not hold while they
+// are written.
 fn put_end(words: &mut [u32], places: usize, n: usize)
     requires { 3 * places ≤ length words.old }
     ensures { words.new ≡ ended places words.old n }

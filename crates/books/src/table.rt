@@ -29,6 +29,7 @@ impl Table {
     }
 }
 
+// By hand, since a struct with a ghost field derives no `Default`.
 impl Default for Table {
     ghost is_default = { λ t. table_of (listed t.rows) ≡ table_of [] };
 

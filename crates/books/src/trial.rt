@@ -44,6 +44,7 @@ impl<B: Book> Trial<B> {
     }
 }
 
+// Its `add` and `cut` are alike with those of a table, where it is said why.
 impl<B: Book> Book for Trial<B> {
     ghost meaning = { λ t. trial_over (B.meaning t.below) (listed t.own) };
 

@@ -21,6 +21,7 @@ pub trait Delay: Copy + Ord {
     // The exact delay that a value means.
     ghost means: { Self → Exact kind };
 
+    // Methods and not `Default`, `Neg` and `Add`: those would need a law each to say what these clauses say, and `Add` can't answer nothing.
     fn zero() -> Self
         ensures { means result ≡ kind.zero };
 
@@ -31,7 +32,7 @@ pub trait Delay: Copy + Ord {
     fn add(self, other: Self) -> Option<Self>
         ensures { MatchOption result (kind.reach < kind.size (kind.sum (means self) (means other))) (λ v. means v ≡ kind.sum (means self) (means other)) };
 
-    // The parts t and s.
+    // The parts t and s: two numbers, since a struct would only wrap what callers have as two.
     fn parts(self) -> (i64, i64)
         ensures { Parts kind (means self) result.0 result.1 };
 

@@ -15,7 +15,7 @@ pub fn read_pair<D: Delay>(t: i64, s: i64) -> Result<D, KindFault>
 }
 
 // The sum of the delays that a row has, or nothing where a sum on the way leaves the reach. That of at most 256, none of a size
-// above the greatest, is always had. The theory is what every kind gives by its laws.
+// above the greatest, is always had. The theory is what every kind gives by its laws. A loop: with `try_fold`, `sums` and `small` stayed unproved.
 #[tactic(auto, using(crate::proofs::TheoryLaws::theory, crate::proofs::TotalLaws::sum_begins, crate::proofs::TotalLaws::sum_ends))]
 pub fn total<D: Delay, T: HasDelay<D>>(xs: &[T]) -> Option<D>
     ensures sums { Summed D.kind D.means (λ x. D.means (T.delay_of x)) xs.now result }

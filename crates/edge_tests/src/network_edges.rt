@@ -92,8 +92,8 @@ fn edges_in_force(rt: HostRuntime) -> Result<(), Fail> {
             (left, right, (t, 0))
         );
     }
-    assert_eq!(rt; in_force(&book, 2, 3).is_none(), true);
-    assert_eq!(rt; in_force::<Ticks>(&[], 0, 0).is_none(), true);
+    assert!(rt; in_force(&book, 2, 3).is_none());
+    assert!(rt; in_force::<Ticks>(&[], 0, 0).is_none());
     Ok(())
 }
 
@@ -187,10 +187,7 @@ fn edges_of_links(rt: HostRuntime) -> Result<(), Fail> {
         (under.left, under.right, under.delay.parts()),
         (0, 3, (0, 0))
     );
-    assert_eq!(rt;
-        edge_of(Link::Book { number: 1 }, &book, posted).is_none(),
-        true
-    );
+    assert!(rt; edge_of(Link::Book { number: 1 }, &book, posted).is_none());
     Ok(())
 }
 

@@ -7,6 +7,7 @@ use std::test::Fail;
 // The tool prints this text for the input, however the input is cut in two.
 fn prints(rt: &impl Abort, heap: Global, task: Task, input: &[u8], text: &str) -> Result<(), Fail> {
     assert_eq!(rt; run(heap, task, input)?.text.as_str(), text);
+    // each cut lies between two bytes, so it is a number and no element
     for cut in 0..input.len() {
         let (first, second) = input.split_at(cut);
         let mut tool = Tool::new(task);

@@ -8,7 +8,7 @@ use bounds::Bound;
 use lines::listing::values;
 use words::{BoundWords, round_trip};
 
-// A line of a listing: a note, which begins with `#`, a bound, or neither.
+// A line of a listing: a note, which begins with `#`, a bound, or neither. Three cases with names, where an Option of a Result has none.
 #[derive(Clone, Copy, PartialEq, Eq, Debug)]
 pub enum Entry {
     Note,

@@ -7,8 +7,8 @@ use std::error::Error;
 use std::fmt;
 use std::str::FromStr;
 
-// What the tool does with each line that holds a bound. The four places that ask which task it is stay matches: a closure in its place
-// would need a condition on the caller, that it may be called, and no public function of the library has one.
+// What the tool does with each line that holds a bound. It is known only when the program runs, and what is proved of the tool holds of every
+// task: so an enum, and a match in the four places that ask which it is, where types of a trait would need three tools and twelve functions.
 #[derive(Clone, Copy, PartialEq, Eq, Debug)]
 pub enum Task {
     // print the words of the line's bound

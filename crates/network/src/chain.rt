@@ -17,7 +17,7 @@ fn never_leaves<D: Delay>(row: &[Edge<D>], point: usize) -> bool
     row.iter().all(|edge| edge.left != point)
 }
 
-// Whether no left point comes twice. A loop, since a call for each edge would take stack.
+// Whether no left point comes twice. A loop: a chain would take the rest of the row by an index, and a recursion would take stack.
 #[tactic(auto, using(crate::proofs::Checking::apart_steps))]
 fn lefts_apart<D: Delay>(row: &[Edge<D>]) -> bool
     ensures { Decides result (Apart (map (λ e. e.left) row.now)) }

@@ -33,7 +33,7 @@ pub fn floor<D: Delay>(point: usize) -> Edge<D>
 }
 
 // The edge in force with the number, where the book has these edges and there are so many points: an edge of the book, or after those
-// the floor of a point. Nothing exactly when none has the number.
+// the floor of a point. Nothing exactly when none has the number. A match: with `or_else`, what it returns stayed unproved.
 #[tactic(auto, using(crate::proofs::InForce::force_steps))]
 pub fn in_force<D: Delay>(book: &[Edge<D>], points: usize, number: usize) -> Option<Edge<D>>
     ensures { InForceRead D.kind D.means book.now points number result }

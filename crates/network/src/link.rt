@@ -51,7 +51,7 @@ impl Error for NoLink {}
 // The unit of the two top bits of a word, which is also one past the greatest number below them.
 const UNIT: u32 = 0x4000_0000;
 
-// The top bits of each sort of link.
+// The top bits of each sort of link. Constants and not an enum, since a match on a word can name them in its patterns.
 const BOOK: u32 = UNIT;
 
 const FLOOR: u32 = 2 * UNIT;

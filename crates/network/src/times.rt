@@ -55,7 +55,7 @@ pub fn meets<D: Delay>(edge: Edge<D>, times: &[D]) -> Option<bool>
     Some(left <= limit)
 }
 
-// The check of times, edge by edge.
+// The check of times, edge by edge. Apart from `check_times`, since there each return would owe the theorems too.
 fn checked<D: Delay>(edges: &[Edge<D>], times: &[D]) -> Result<(), Mismatch>
     ensures { TimesChecked D.kind D.means edges.now times.now result }
 {

@@ -19,7 +19,7 @@ pub fn sum<D: Delay>(row: &[Edge<D>]) -> Option<D>
     total(row)
 }
 
-// Whether the row leads from one point to another. A loop, since a fold would carry the point in an Option, and say no more.
+// Whether the row leads from one point to another. A loop: as a `try_fold`, what it returns stayed unproved.
 #[tactic(auto, using(crate::proofs::Checking::walk_steps))]
 pub(crate) fn leads<D: Delay>(row: &[Edge<D>], from: usize, to: usize) -> bool
     ensures { Decides result (Walk from (bounds_of D.kind D.means row.now) to) }

@@ -46,7 +46,7 @@ impl Bound {
         })
     }
 
-    // The four numbers of the bound, all in range.
+    // The four numbers of the bound, all in range. It reads the bound's one field, so it is no conversion.
     pub fn row(self) -> Row
         ensures value { result ≡ row_of self }
         ensures range { Sound result }
