@@ -3,6 +3,10 @@
 
 usage: tools/places.py [COMMIT]     (no commit: the files as they are)
 
+The points: 1 enums of one's own like Option or Result, a flag beside a value, numbers for kinds or refusals; 2 twins, functions that differ only in a
+type, a size or a constant; 3 loops that count an index; 4 equality, order, copying, conversion and printing by hand; 5 facts in three contracts,
+parameters that travel together; 6 buffers with a length beside; 7 switches on which step to run.
+
 A line of a pattern that is counted is printed, so that each can be looked at. Points 2 and 5 are not told by a
 pattern: for 2 it compares the bodies of all functions, token by token; for 5 it counts parameters that stand side by
 side in three functions or more, and facts that three contracts or more have word for word."""

@@ -1,17 +1,8 @@
 // Delays at the reach, one past it, and at the ends of 64 bits.
+use crate::kinds::{REACH, ranked, ticks};
 use delays::{Delay, KindFault, Ranked, Ticks, read_pair, total};
 use faults::{Fault, Layer};
 use std::test::Fail;
-
-const REACH: i64 = 1_099_511_627_776;
-
-fn ticks(t: i64) -> Result<Ticks, KindFault> {
-    read_pair(t, 0)
-}
-
-fn ranked(t: i64, s: i64) -> Result<Ranked, KindFault> {
-    read_pair(t, s)
-}
 
 #[test]
 fn pairs_of_ticks(rt: HostRuntime) -> Result<(), Fail> {

@@ -8,6 +8,8 @@ mod bounds_edges;
 #[cfg(test)]
 mod delay_edges;
 #[cfg(test)]
+mod kinds;
+#[cfg(test)]
 mod network_edges;
 #[cfg(test)]
 mod tool_runs;

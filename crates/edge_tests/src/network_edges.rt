@@ -1,16 +1,11 @@
 // Times, chains and walks at the edges of what meets and what does not, and the words of links.
+use crate::kinds::{REACH, ticks};
 use delays::{Delay, KindFault, Ranked, Ticks, read_pair};
 use network::{
     Edge, Link, Mismatch, NoLink, NoWord, check_times, comes_over, edge_of, floor, in_force,
     is_chain,
 };
 use std::test::Fail;
-
-const REACH: i64 = 1_099_511_627_776;
-
-fn ticks(t: i64) -> Result<Ticks, KindFault> {
-    read_pair(t, 0)
-}
 
 fn edge<D: Delay>(left: usize, right: usize, t: i64, s: i64) -> Result<Edge<D>, KindFault> {
     Ok(Edge {
