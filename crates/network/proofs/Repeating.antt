@@ -38,6 +38,7 @@ module _ {k : Kind} (laws : Lawful k) {edges : Bounds k} {n m : ℕ} {point : �
         before = i<j;
         within = j≤m;
         same = f.same;
+        first = f.apart;
         chain = record {
           chain = record {
             start = point i;

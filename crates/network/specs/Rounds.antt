@@ -24,13 +24,14 @@ pub record Traced (k : Kind) (edges : Bounds k) (n m : ℕ) (point : ℕ → ℕ
 abbrev pub stretch : {k : Kind} → (ℕ → ExactBound k) → ℕ → ℕ → Bounds k
 stretch via i j = map via (range_with_len i (j - i))
 
--- between the rounds `from` and `to`, which have one point, the bounds are a chain
+-- the rounds `from` and `to` have one point, before `to` no point comes twice, and the bounds between them are a chain
 pub record Repeated (k : Kind) (edges : Bounds k) (m : ℕ) (point : ℕ → ℕ) (via : ℕ → ExactBound k) : Type 0 where
   pub from : ℕ
   pub to : ℕ
   pub before : from < to
   pub within : to ≤ m
   pub same : point from ≡ point to
+  pub first : (i j : ℕ) → i < j → j < to → point i ≡ point j → ⊥
   pub chain : ChainIn k edges (stretch via from to)
 
 -- The theorem.
