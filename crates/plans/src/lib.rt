@@ -1,0 +1,6 @@
+// Plans: whether the bounds of a book can be met, the earliest times, and bounds that are tried and taken back.
+#![tactic(auto)]
+
+pub mod fault;
+
+pub use fault::PlanFault;
