@@ -4,3 +4,7 @@ pub mod Answers
 pub mod States
 pub mod Steps
 pub mod Runs
+pub mod Conflicts
+pub mod Questions
+pub mod Labels
+pub mod Rounds

@@ -2,5 +2,7 @@
 #![tactic(auto)]
 
 pub mod fault;
+mod label;
+mod question;
 
 pub use fault::PlanFault;

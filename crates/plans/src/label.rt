@@ -1,0 +1,9 @@
+// What a relaxation knows of a point.
+#[derive(Clone, Copy)]
+pub(crate) struct Label<D> {
+    pub time: D,
+    // the number of the bound over which the point got its time
+    pub via: usize,
+    // whether it got its time in the round before
+    pub waits: bool,
+}
