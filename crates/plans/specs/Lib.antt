@@ -8,3 +8,5 @@ pub mod Conflicts
 pub mod Questions
 pub mod Labels
 pub mod Rounds
+pub mod Soundness
+pub mod Plans

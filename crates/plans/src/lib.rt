@@ -3,6 +3,13 @@
 
 pub mod fault;
 mod label;
+mod mark;
+pub mod plan;
 mod question;
+pub mod posted;
+pub mod slip;
 
 pub use fault::PlanFault;
+pub use plan::Plan;
+pub use posted::Posted;
+pub use slip::Slip;

@@ -1,0 +1,36 @@
+-- What holds of a plan between any two calls. Assumes nothing.
+use Rattle.std.specs.Prelude.{◌≡◌, ℕ, ◌<◌, ◌≤◌, Bool, true, false, List, [], ◌++◌, length, take, All, AllPairs}
+use Rattle.bounds.specs.declared.row.Row.{Row}
+use Rattle.delays.specs.Kind.{Kind, Exact}
+use Rattle.network.specs.Assignments.{Le, Solution}
+use Rattle.network.specs.Edges.{time_of_point}
+use Rattle.books.specs.Meaning.{Meaning, bounds_of}
+use Rattle.plans.specs.declared.mark.Mark.{Mark}
+use Rattle.plans.specs.Rows.{force, Fit}
+
+-- x meets the bounds in force, and every other assignment that does gives each of the n points at least its time
+pub record Least (k : Kind) (n : ℕ) (rows : List Row) (x : ℕ → Exact k) : Type 0 where
+  pub solution : Solution k (force k n rows) x
+  pub least : (y : ℕ → Exact k) → Solution k (force k n rows) y → (p : ℕ) → p < n → Le k (x p) (y p)
+
+module _ {X : Type 0} (k : Kind) (means : X → Exact k) where
+  -- a mark noted a count of added bounds, and the least times of the fixed bounds and those
+  pub record Restores (book : Meaning) (n : ℕ) (m : Mark X) : Type 0 where
+    pub added : m.added ≤ length book.added
+    pub least : Least k n (book.fixed ++ take m.added book.added) (time_of_point k means m.times)
+
+  -- a settled plan: it has from 1 to 128 points, each bound of the book is one that it can take, the times are the least, each mark
+  -- can be restored, and no later mark noted fewer bounds
+  pub record Settled (book : Meaning) (n : ℕ) (times : List X) (marks : List (Mark X)) : Type 0 where
+    pub some : 0 < n
+    pub few : n ≤ 128
+    pub fit : All (Fit k n) (bounds_of book)
+    pub least : Least k n (bounds_of book) (time_of_point k means times)
+    pub restores : All (Restores book n) marks
+    pub rising : AllPairs (λ x y. x.added ≤ y.added) marks
+
+  -- at most eight marks are open, and none in a plan that is not settled
+  pub record Sound (book : Meaning) (n : ℕ) (settled : Bool) (times : List X) (marks : List (Mark X)) : Type 0 where
+    pub marks_few : length marks ≤ 8
+    pub unsettled : settled ≡ false → marks ≡ []
+    pub settled_times : settled ≡ true → Settled book n times marks

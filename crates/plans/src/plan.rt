@@ -1,0 +1,22 @@
+ghost use Rattle.plans.specs.Soundness.{Sound};
+
+use crate::mark::Mark;
+use arrayvec::ArrayVec;
+use books::Book;
+use delays::Delay;
+
+pub mod calls;
+
+// A plan: a book, a number of points whose events its bounds are about, a plan number, and up to eight open marks.
+#[derive(Drop)]
+pub struct Plan<D: Delay, B: Book> {
+    book: B,
+    points: usize,
+    number: u32,
+    settled: bool,
+    // the earliest times, where the plan is settled
+    times: [D; 128],
+    // the oldest first
+    marks: ArrayVec<Mark<D>, 8>,
+    ghost sound: { Sound D.kind D.means (B.meaning book) points settled times marks.items },
+}

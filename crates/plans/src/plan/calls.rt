@@ -1,0 +1,123 @@
+// The calls on a plan.
+ghost use Rattle.std.specs.Prelude.{◌≡◌, true, false, MatchResult};
+ghost use Rattle.plans.specs.Answers.{read, mark, keep, back};
+ghost use Rattle.plans.specs.States.{State, opened, noted};
+ghost use Rattle.plans.specs.Steps.{Step, Present};
+
+use crate::fault::PlanFault;
+use crate::mark::Mark;
+use crate::plan::Plan;
+use crate::slip::Slip;
+use arrayvec::ArrayVec;
+use books::Book;
+use delays::Delay;
+
+impl<D: Delay, B: Book> Plan<D, B> {
+    ghost use Rattle.plans.specs.Plans.{state_of, read_answer, mark_answer, close_answer, CutOrSame};
+
+    // A new plan over a book: unsettled, with no mark open. It never refuses.
+    pub fn open(book: B, points: usize, number: u32) -> Plan<D, B>
+        ensures book { result.book ≡ book }
+        ensures opened { state_of result ≡ opened (B.meaning book) points number }
+    {
+        Plan {
+            book,
+            points,
+            number,
+            settled: false,
+            times: [D::zero(); 128],
+            marks: ArrayVec::new(),
+        }
+    }
+
+    // The book, as the plan leaves it.
+    pub fn close(self) -> B
+        ensures { result ≡ self.book }
+    {
+        let Plan {
+            book,
+            points: _,
+            number: _,
+            settled: _,
+            times: _,
+            marks: _,
+        } = self;
+        book
+    }
+
+    fn check_settled(&self) -> Result<(), PlanFault>
+        ensures { MatchResult result (λ u. self.now.settled ≡ true) (λ e. (e ≡ PlanFault.Unsettled) × (self.now.settled ≡ false)) }
+    {
+        if self.settled {
+            Ok(())
+        } else {
+            Err(PlanFault::Unsettled)
+        }
+    }
+
+    // The earliest time of a point.
+    pub fn read(&self, point: usize) -> Result<D, PlanFault>
+        ensures { Step D.kind (state_of self.now) (read point) (read_answer D.means result) (state_of self.now) }
+    {
+        self.check_settled()?;
+        if point >= self.points {
+            return Err(PlanFault::Point { place: 1 });
+        }
+        Ok(self.times[point])
+    }
+
+    // Opens a mark and hands out its slip.
+    pub fn mark(&mut self) -> Result<Slip, PlanFault>
+        ensures step { Step D.kind (state_of self.old) mark (mark_answer result) (state_of self.new) }
+        ensures book { self.new.book ≡ self.old.book }
+    {
+        self.check_settled()?;
+        if self.marks.len() == 8 {
+            return Err(PlanFault::MarksFull);
+        }
+        self.marks.push(Mark {
+            added: self.book.added_count(),
+            times: self.times,
+        });
+        Ok(Slip::new(self.number, self.marks.len()))
+    }
+
+    // Takes the slip, also where it refuses: it is good where it has the plan's number and present depth, and a mark is open.
+    fn check_slip(&self, slip: Slip) -> Result<(), PlanFault>
+        ensures { MatchResult result (λ u. Present (state_of self.now) slip.number slip.depth) (λ e. (e ≡ PlanFault.WrongSlip) × (Present (state_of self.now) slip.number slip.depth → ⊥)) }
+    {
+        let (number, depth) = slip.spent();
+        if number == self.number && depth == self.marks.len() && depth > 0 {
+            Ok(())
+        } else {
+            Err(PlanFault::WrongSlip)
+        }
+    }
+
+    // Closes the youngest mark, and keeps what was posted since.
+    pub fn keep(&mut self, slip: Slip) -> Result<(), PlanFault>
+        ensures step { Step D.kind (state_of self.old) (keep slip.number slip.depth) (close_answer result) (state_of self.new) }
+        ensures book { self.new.book ≡ self.old.book }
+    {
+        let present = self.check_slip(slip);
+        self.check_settled()?;
+        present?;
+        self.marks.pop();
+        Ok(())
+    }
+
+    // Closes the youngest mark, and takes back what was posted since.
+    pub fn back(&mut self, slip: Slip) -> Result<(), PlanFault>
+        ensures step { Step D.kind (state_of self.old) (back slip.number slip.depth) (close_answer result) (state_of self.new) }
+        ensures book { CutOrSame B.meaning B.cuts self.old.book (noted (state_of self.old) slip.depth) self.new.book result }
+    {
+        let present = self.check_slip(slip);
+        self.check_settled()?;
+        present?;
+        if let Some(mark) = self.marks.pop() {
+            self.book.cut(mark.added);
+            self.times = mark.times;
+        }
+        Ok(())
+    }
+}
