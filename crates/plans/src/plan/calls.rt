@@ -11,6 +11,7 @@ use crate::slip::Slip;
 use arrayvec::ArrayVec;
 use books::Book;
 use delays::Delay;
+use network::time_at;
 
 impl<D: Delay, B: Book> Plan<D, B> {
     ghost use Rattle.plans.specs.Plans.{state_of, read_answer, mark_answer, close_answer, CutOrSame};
@@ -63,10 +64,11 @@ impl<D: Delay, B: Book> Plan<D, B> {
         if point >= self.points {
             return Err(PlanFault::Point { place: 1 });
         }
-        Ok(self.times[point])
+        Ok(time_at(&self.times, point))
     }
 
     // Opens a mark and hands out its slip.
+    #[tactic(auto, using(crate::proofs::Sounds::sound_marked))]
     pub fn mark(&mut self) -> Result<Slip, PlanFault>
         ensures step { Step D.kind (state_of self.old) mark (mark_answer result) (state_of self.new) }
         ensures book { self.new.book ≡ self.old.book }
@@ -95,6 +97,7 @@ impl<D: Delay, B: Book> Plan<D, B> {
     }
 
     // Closes the youngest mark, and keeps what was posted since.
+    #[tactic(auto, using(crate::proofs::Sounds::sound_popped))]
     pub fn keep(&mut self, slip: Slip) -> Result<(), PlanFault>
         ensures step { Step D.kind (state_of self.old) (keep slip.number slip.depth) (close_answer result) (state_of self.new) }
         ensures book { self.new.book ≡ self.old.book }
@@ -107,6 +110,7 @@ impl<D: Delay, B: Book> Plan<D, B> {
     }
 
     // Closes the youngest mark, and takes back what was posted since.
+    #[tactic(auto, using(crate::proofs::Sounds::sound_popped, crate::proofs::Sounds::sound_restored))]
     pub fn back(&mut self, slip: Slip) -> Result<(), PlanFault>
         ensures step { Step D.kind (state_of self.old) (back slip.number slip.depth) (close_answer result) (state_of self.new) }
         ensures book { CutOrSame B.meaning B.cuts self.old.book (noted (state_of self.old) slip.depth) self.new.book result }

@@ -1,0 +1,35 @@
+use Rattle.std.proofs.Common.{rules, ◌≡◌, true, false, MatchResult, ℕ, ◌+◌, ◌-◌, ◌*◌, ◌<◌, ◌≤◌, length, ◌/◌, ◌%◌, Bool, nat_eq, nat_lt, List, [], ◌∷◌, ◌++◌, slice_index_or, slice_set, bit_and, bit_or, Fits, w8, w32, w64, Bor, MutBor}
+use Rattle.plans.specs.Answers.{read, mark, keep, back}
+use Rattle.plans.specs.States.{State, opened, noted}
+use Rattle.plans.specs.Steps.{Step, Present}
+use Rattle.plans.specs.Plans.{state_of, read_answer, mark_answer, close_answer, CutOrSame}
+use Rattle.std.proofs.Common.{sym, refl, ◌∙◌, inl, inr}
+use Rattle.std.proofs.lemmas.Bool.{both_ways}
+use Rattle.plans.proofs.Sounds.{sound_restored, noted_youngest, counts_left, cut_is, youngest_added, state_same}
+use Rattle.plans.proofs.plan.Plan.back.Goals as goal
+
+-- src/plan/calls.rt:122:13
+pub invariant_of-self : goal.invariant_of-self
+invariant_of-self g c =
+    let split = (c.in-Some.ensures {u = tt}).items in
+    let few = youngest_added c.pop.new.self.items c.in-Some.mark split (c.in_ok-check_settled.ensures {u = tt}) c.args.self.now.sound in
+    record { sound = sound_restored c.in-Some.mark split (cut_is g.B.Book.meaning g.B.Book.cuts c.cut.result c.cut.ensures few).1 c.args.self.now.sound }
+
+-- src/plan/calls.rt:112:5
+pub returns-in-Some-clause-step : goal.returns-in-Some-clause-step
+returns-in-Some-clause-step g c =
+    let split = (c.in-Some.ensures {u = tt}).items in
+    let on = c.in_ok-check_settled.ensures {u = tt} in
+    let present = c.in_ok-present.ensures {u = tt} in
+    let few = youngest_added c.pop.new.self.items c.in-Some.mark split on c.args.self.now.sound in
+    let same = (cut_is g.B.Book.meaning g.B.Book.cuts c.cut.result c.cut.ensures few).1 in
+    let noted = noted_youngest c.pop.new.self.items c.in-Some.mark split c.args.slip.depth present.depth_is in
+    let left = counts_left c.pop.new.self.items c.in-Some.mark split c.args.slip.depth present.depth_is in
+    inr (λ off. both_ways c.args.self.now.settled off on, inr (λ no. no present, (refl, state_same (rw noted same) refl refl refl left)))
+
+-- src/plan/calls.rt:112:5
+pub returns-in-Some-clause-book : goal.returns-in-Some-clause-book
+returns-in-Some-clause-book g c =
+    let split = (c.in-Some.ensures {u = tt}).items in
+    let few = youngest_added c.pop.new.self.items c.in-Some.mark split (c.in_ok-check_settled.ensures {u = tt}) c.args.self.now.sound in
+    rw (noted_youngest c.pop.new.self.items c.in-Some.mark split c.args.slip.depth (c.in_ok-present.ensures {u = tt}).depth_is) (cut_is g.B.Book.meaning g.B.Book.cuts c.cut.result c.cut.ensures few)
