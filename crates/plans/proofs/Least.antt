@@ -44,4 +44,4 @@ pub read_step : {k : Kind} → Lawful k → {s : State} {x : ℕ → Exact k} {p
     → p < s.points → (y : Exact k) → y ≡ x p → Step k s (read p) (time y) s
 read_step {k = k} laws {s = s} {x = x} {p = p} on some fit l h y e =
     inr (λ off. both_ways s.settled off on, inr (λ past. omega (arith, past, h), (y, subst (Earliest k (force k s.points (rows s)) p) (sym e)
-    ((least_times laws s.points (rows s) x some fit l).earliest p h), refl, refl)))
+    ((least_times laws s.points (rows s) x some fit l).earliest p h), (refl, refl))))
