@@ -35,7 +35,7 @@ module _ {k : Kind} where
       low_run d xs r (All-tail (OpensNone d) x xs n) (low_change d (change c a v p) (All-head (OpensNone d) x xs n) h)
 
 -- the plan u, with the mark still open that was opened at the plan s
-record Inside (s u : State) : Type 0 where
+pub record Inside (s u : State) : Type 0 where
   more : List Row
   inner : List ℕ
   fixed_is : u.book.fixed ≡ s.book.fixed
