@@ -1,13 +1,15 @@
 -- What a plan keeps of an open mark, while calls follow, and that a back to the mark brings the plan back. Assumes nothing.
-use Rattle.std.proofs.Common.{◌≡◌, ℕ, suc, ◌+◌, ◌-◌, ◌<◌, ◌≤◌, Bool, true, false, ◌⊎◌, List, [], ◌∷◌, ◌++◌, length, get_or, take, sym, refl, ap, ◌∙◌, inl, inr, append_assoc, append-nil, arith, length-append, length-take, get_or-append-add}
-use Rattle.std.proofs.Math.Seq.{take-append_seam, take-append-add, get_or-append_seam}
+use Rattle.std.proofs.Common.{◌≡◌, ℕ, suc, ◌+◌, ◌-◌, ◌<◌, ◌≤◌, Bool, true, false, ◌⊎◌, List, [], ◌∷◌, ◌++◌, length, get_or, take, sym, refl, ap, ◌∙◌, inl, inr, append_assoc, append-nil, arith, length-append, length-take, take-take}
+use Rattle.std.proofs.Math.Seq.{take-length, take-append_seam, get_or-append_seam}
+use Rattle.std.proofs.lemmas.List.{take-append-le, get_or_append_left, get_or-take, length-take-le}
 use Rattle.std.specs.List.{All}
 use Rattle.std.proofs.lemmas.List.Elements.{All-nil, All-push, All-take, All-get_or, All-head, All-tail}
 use Rattle.std.proofs.lemmas.Bool.{both_ways, cases_eq, cases_lt}
 use Rattle.bounds.specs.declared.row.Row.{Row}
 use Rattle.delays.specs.Kind.{Kind}
+use Rattle.books.specs.Meaning.{Meaning, with_bounds, cut_to}
 use Rattle.plans.specs.Answers.{Call, settle, post, read, mark, keep, back, Answer, slip, done}
-use Rattle.plans.specs.States.{State, rows, depth, marking, closing, cutting, noted}
+use Rattle.plans.specs.States.{State, rows, depth, posting, marking, closing, cutting, noted}
 use Rattle.plans.specs.Runs.{Said, Run, rests, goes, Unmarked}
 use Rattle.plans.proofs.Changing.{Change, same, settles, posts, marks, keeps, backs, change}
 
@@ -34,142 +36,124 @@ module _ {k : Kind} where
   low_run d (x ∷ xs) (goes {t = v} {c = c} {a = a} p r) n h =
       low_run d xs r (All-tail (OpensNone d) x xs n) (low_change d (change c a v p) (All-head (OpensNone d) x xs n) h)
 
+-- from place n on, each of the counts is at least low
+abbrev High : ℕ → ℕ → List ℕ → Type 0
+High low n counts = (i : ℕ) → n ≤ i → i < length counts → low ≤ get_or counts i 0
+
+high_push : (low n : ℕ) (counts : List ℕ) (x : ℕ) → High low n counts → low ≤ x → High low n (counts ++ x ∷ [])
+high_push low n counts x h up i l m = go (cases_lt i (length counts))
+  where
+    go : (i < length counts) ⊎ (length counts ≤ i) → low ≤ get_or (counts ++ x ∷ []) i 0
+    go (inl b) = rw (get_or_append_left counts (x ∷ []) 0 i b) (h i l b)
+    go (inr b) = let e : i ≡ length counts = omega (arith, length-append counts (x ∷ [])) in rw (e, get_or-append_seam counts x [] 0) up
+
+-- all that stood in the old book stands first in the new one
+record BookInside (old new : Meaning) : Type 0 where
+  fixed_is : new.fixed ≡ old.fixed
+  long : length old.added ≤ length new.added
+  added_is : take (length old.added) new.added ≡ old.added
+  room : new.free + length new.added ≡ old.free + length old.added
+
+-- of the marks, the old ones stand first, then one that noted this count, and then those that noted that or more
+record MarksInside (count : ℕ) (old new : List ℕ) : Type 0 where
+  deep : length old < length new
+  marks_is : take (length old) new ≡ old
+  here : get_or new (length old) 0 ≡ count
+  high : High count (length old) new
+
 -- the plan u, with the mark still open that was opened at the plan s
 pub record Inside (s u : State) : Type 0 where
-  more : List Row
-  inner : List ℕ
-  fixed_is : u.book.fixed ≡ s.book.fixed
-  added_is : u.book.added ≡ s.book.added ++ more
-  room : u.book.free + length u.book.added ≡ s.book.free + length s.book.added
   points_is : u.points ≡ s.points
   number_is : u.number ≡ s.number
   settled_is : u.settled ≡ true
-  marks_is : u.marks ≡ s.marks ++ (length s.book.added ∷ inner)
-  -- the marks opened since noted what stood before, or more
-  high : All (λ m. length s.book.added ≤ m) inner
+  book : BookInside s.book u.book
+  marks : MarksInside (length s.book.added) s.marks u.marks
 
-module _ {s u : State} (i : Inside s u) where
-  -- cutting to a mark noted inside leaves all that stood before
-  cut_after : (m : ℕ) → length s.book.added ≤ m → take m (s.book.added ++ i.more) ≡ s.book.added ++ take (m - length s.book.added) i.more
-  cut_after m h =
-      let e : m ≡ length s.book.added + (m - length s.book.added) = omega arith in
-      ap (λ (j : ℕ). take j (s.book.added ++ i.more)) e ∙ take-append-add s.book.added i.more (m - length s.book.added)
-
-  -- a mark inside is closed
-  closing_marks : (d : ℕ) → depth s + 1 < d → take (d - 1) u.marks ≡ s.marks ++ (length s.book.added ∷ take (d - 2 - depth s) i.inner)
-  closing_marks d h =
-      let e : d - 1 ≡ length s.marks + suc (d - 2 - depth s) = omega arith in
-      ap (take (d - 1)) i.marks_is ∙ ap (λ (j : ℕ). take j (s.marks ++ (length s.book.added ∷ i.inner))) e
-      ∙ take-append-add s.marks (length s.book.added ∷ i.inner) (suc (d - 2 - depth s))
-
-  noted_inside : (d : ℕ) → depth s + 1 < d → d ≤ depth u → length s.book.added ≤ noted u d
-  noted_inside d h l =
-      let r = d - 2 - depth s in
-      let e : d - 1 ≡ length s.marks + suc r = omega arith in
-      let long : depth u ≡ depth s + suc (length i.inner) = ap length i.marks_is ∙ length-append s.marks (length s.book.added ∷ i.inner) in
-      let at : noted u d ≡ get_or i.inner r 0 = ap (λ (l : List ℕ). get_or l (d - 1) 0) i.marks_is
-          ∙ ap (λ (j : ℕ). get_or (s.marks ++ (length s.book.added ∷ i.inner)) j 0) e
-          ∙ get_or-append-add s.marks (length s.book.added ∷ i.inner) (suc r) 0 in
-      omega (arith, All-get_or (λ m. length s.book.added ≤ m) i.inner r 0 (omega arith) i.high)
-
-  keep_inside : (d : ℕ) → 0 < d → d ≤ depth u → (depth s + 1 < d) ⊎ (d ≤ depth s + 1) → Inside s (closing d u) ⊎ (depth (closing d u) < depth s + 1)
-  keep_inside d l m (inr h) = inr (omega (arith, length-take (d - 1) u.marks))
-  keep_inside d l m (inl h) = inl (record {
-    more = i.more;
-    inner = take (d - 2 - depth s) i.inner;
+module _ {old new : Meaning} (i : BookInside old new) where
+  book_added : (b : Row) → (new.free ≡ 0 → ⊥) → BookInside old (with_bounds new (b ∷ []))
+  book_added b some = let more = length-append new.added (b ∷ []) in let long = i.long in record {
     fixed_is = i.fixed_is;
-    added_is = i.added_is;
-    room = i.room;
-    points_is = i.points_is;
-    number_is = i.number_is;
-    settled_is = i.settled_is;
-    marks_is = closing_marks d h;
-    high = All-take (λ m. length s.book.added ≤ m) (d - 2 - depth s) i.inner i.high;
-  })
+    long = omega (arith, more);
+    added_is = take-append-le (length old.added) new.added (b ∷ []) long ∙ i.added_is;
+    room = omega (arith, more, i.room);
+  }
 
-  back_inside : (d : ℕ) → 0 < d → d ≤ depth u → (depth s + 1 < d) ⊎ (d ≤ depth s + 1)
-      → Inside s (cutting (noted u d) (closing d u)) ⊎ (depth (closing d u) < depth s + 1)
-  back_inside d l m (inr h) = inr (omega (arith, length-take (d - 1) u.marks))
-  back_inside d l m (inl h) = inl (record {
-    more = take (noted u d - length s.book.added) i.more;
-    inner = take (d - 2 - depth s) i.inner;
+  book_cut : (m : ℕ) → length old.added ≤ m → BookInside old (cut_to new m)
+  book_cut m h = let left = length-take m new.added in record {
     fixed_is = i.fixed_is;
-    added_is = ap (take (noted u d)) i.added_is ∙ cut_after (noted u d) (noted_inside d h m);
-    room = omega (arith, length-take (noted u d) u.book.added, i.room);
-    points_is = i.points_is;
-    number_is = i.number_is;
-    settled_is = i.settled_is;
-    marks_is = closing_marks d h;
-    high = All-take (λ m. length s.book.added ≤ m) (d - 2 - depth s) i.inner i.high;
-  })
+    long = omega (arith, left, i.long);
+    added_is = take-take (length old.added) m new.added h ∙ i.added_is;
+    room = omega (arith, left, i.room);
+  }
 
-  -- the back to the mark itself
-  pub back_restores : s.settled ≡ true → (d : ℕ) → d ≡ depth s + 1 → cutting (noted u d) (closing d u) ≡ s
-  back_restores f d h =
-      let e : d - 1 ≡ length s.marks = omega arith in
-      let at : noted u d ≡ length s.book.added = ap (λ (l : List ℕ). get_or l (d - 1) 0) i.marks_is
-          ∙ ap (λ (j : ℕ). get_or (s.marks ++ (length s.book.added ∷ i.inner)) j 0) e ∙ get_or-append_seam s.marks (length s.book.added) i.inner 0 in
-      let long : length u.book.added ≡ length s.book.added + length i.more = ap length i.added_is ∙ length-append s.book.added i.more in
-      let free : u.book.free + (length u.book.added - noted u d) ≡ s.book.free = omega (arith, i.room) in
-      λ j. record {
-        book = record {
-          fixed = i.fixed_is j;
-          added = (ap (λ (m : ℕ). take m u.book.added) at ∙ ap (take (length s.book.added)) i.added_is ∙ take-append_seam s.book.added i.more) j;
-          free = free j;
-        };
-        points = i.points_is j;
-        number = i.number_is j;
-        settled = (i.settled_is ∙ sym f) j;
-        marks = (ap (take (d - 1)) i.marks_is ∙ ap (λ (m : ℕ). take m (s.marks ++ (length s.book.added ∷ i.inner))) e
-            ∙ take-append_seam s.marks (length s.book.added ∷ i.inner)) j;
-      }
+module _ {count : ℕ} {old new : List ℕ} (i : MarksInside count old new) where
+  marks_more : (x : ℕ) → count ≤ x → MarksInside count old (new ++ x ∷ [])
+  marks_more x up = let deep = i.deep in record {
+    deep = omega (arith, length-append new (x ∷ []));
+    marks_is = take-append-le (length old) new (x ∷ []) (omega arith) ∙ i.marks_is;
+    here = get_or_append_left new (x ∷ []) 0 (length old) deep ∙ i.here;
+    high = high_push count (length old) new x i.high up;
+  }
+
+  marks_fewer : (m : ℕ) → length old < m → m ≤ length new → MarksInside count old (take m new)
+  marks_fewer m h l = let left : length (take m new) ≡ m = length-take-le m new l in record {
+    deep = omega arith;
+    marks_is = take-take (length old) m new (omega arith) ∙ i.marks_is;
+    here = get_or-take m new (length old) 0 h ∙ i.here;
+    high = λ j up low. rw (get_or-take m new j 0 (omega arith)) (i.high j up (omega arith));
+  }
 
 pub inside_first : {s : State} → s.settled ≡ true → Inside s (marking s)
-inside_first {s} f = record {
-  more = [];
-  inner = [];
-  fixed_is = refl;
-  added_is = sym (append-nil s.book.added);
-  room = refl;
+inside_first {s} f = let count = length s.book.added in record {
   points_is = refl;
   number_is = refl;
   settled_is = f;
-  marks_is = refl;
-  high = All-nil (λ m. length s.book.added ≤ m);
+  book = record { fixed_is = refl; long = omega arith; added_is = take-length s.book.added; room = refl };
+  marks = record {
+    deep = omega (arith, length-append s.marks (count ∷ []));
+    marks_is = take-append_seam s.marks (count ∷ []);
+    here = get_or-append_seam s.marks count [] 0;
+    high = high_push count (depth s) s.marks count (λ i l m. absurd (omega arith)) (omega arith);
+  };
 }
 
+-- a change of the book and of the marks alone
+inside_same : {s u : State} (book : Meaning) (counts : List ℕ) → Inside s u → BookInside s.book book → MarksInside (length s.book.added) s.marks counts
+    → Inside s (record { book = book; points = u.points; number = u.number; settled = u.settled; marks = counts })
+inside_same book counts i b m = record { points_is = i.points_is; number_is = i.number_is; settled_is = i.settled_is; book = b; marks = m }
+
+-- the back to the mark itself
+pub back_restores : {s u : State} → Inside s u → s.settled ≡ true → (d : ℕ) → d ≡ depth s + 1 → cutting (noted u d) (closing d u) ≡ s
+back_restores {s} {u} i f d h =
+    let e : d - 1 ≡ depth s = omega arith in
+    let at : noted u d ≡ length s.book.added = ap (λ (j : ℕ). get_or u.marks j 0) e ∙ i.marks.here in
+    let free : u.book.free + (length u.book.added - noted u d) ≡ s.book.free = omega (arith, i.book.room, i.book.long) in
+    λ j. record {
+      book = record { fixed = i.book.fixed_is j; added = (ap (λ (m : ℕ). take m u.book.added) at ∙ i.book.added_is) j; free = free j };
+      points = i.points_is j;
+      number = i.number_is j;
+      settled = (i.settled_is ∙ sym f) j;
+      marks = (ap (λ (m : ℕ). take m u.marks) e ∙ i.marks.marks_is) j;
+    }
+
 module _ {k : Kind} {s : State} where
+  -- a call leaves the mark open, or closes it
   inside_change : {u v : State} {c : Call} {a : Answer k} → Change k u c a v → Inside s u → Inside s v ⊎ (depth v < depth s + 1)
   inside_change (same q) i = inl i
   inside_change {u} (settles x e f) i = absurd (both_ways u.settled f i.settled_is)
-  inside_change {u} (posts {b = b} x e f g) i = inl (record {
-    more = i.more ++ b ∷ [];
-    inner = i.inner;
-    fixed_is = i.fixed_is;
-    added_is = ap (λ (l : List Row). l ++ b ∷ []) i.added_is ∙ append_assoc s.book.added i.more (b ∷ []);
-    room = omega (arith, length-append u.book.added (b ∷ []), i.room);
-    points_is = i.points_is;
-    number_is = i.number_is;
-    settled_is = i.settled_is;
-    marks_is = i.marks_is;
-    high = i.high;
-  })
-  inside_change {u} (marks f) i =
-      let long : length s.book.added ≤ length u.book.added = omega (arith, ap length i.added_is, length-append s.book.added i.more) in inl (record {
-        more = i.more;
-        inner = i.inner ++ length u.book.added ∷ [];
-        fixed_is = i.fixed_is;
-        added_is = i.added_is;
-        room = i.room;
-        points_is = i.points_is;
-        number_is = i.number_is;
-        settled_is = i.settled_is;
-        marks_is = ap (λ (l : List ℕ). l ++ length u.book.added ∷ []) i.marks_is
-            ∙ append_assoc s.marks (length s.book.added ∷ i.inner) (length u.book.added ∷ []);
-        high = All-push (λ m. length s.book.added ≤ m) i.inner (length u.book.added) i.high long;
-      })
-  inside_change (keeps {d = d} e l m f) i = keep_inside i d l m (cases_lt (depth s + 1) d)
-  inside_change (backs {d = d} e l m f) i = back_inside i d l m (cases_lt (depth s + 1) d)
+  inside_change {u} (posts {b = b} x e f g) i = inl (inside_same _ _ i (book_added i.book b g) i.marks)
+  inside_change {u} (marks f) i = inl (inside_same _ _ i i.book (marks_more i.marks (length u.book.added) i.book.long))
+  inside_change {u} (keeps {d = d} e l m f) i = go (cases_lt (depth s + 1) d)
+    where
+      go : (depth s + 1 < d) ⊎ (d ≤ depth s + 1) → Inside s (closing d u) ⊎ (depth (closing d u) < depth s + 1)
+      go (inl h) = inl (inside_same _ _ i i.book (marks_fewer i.marks (d - 1) (omega arith) (omega arith)))
+      go (inr h) = inr (omega (arith, length-take (d - 1) u.marks))
+  inside_change {u} (backs {d = d} e l m f) i = go (cases_lt (depth s + 1) d)
+    where
+      go : (depth s + 1 < d) ⊎ (d ≤ depth s + 1) → Inside s (cutting (noted u d) (closing d u)) ⊎ (depth (closing d u) < depth s + 1)
+      go (inl h) = inl (inside_same _ _ i (book_cut i.book (noted u d) (i.marks.high (d - 1) (omega arith) (omega arith)))
+          (marks_fewer i.marks (d - 1) (omega arith) (omega arith)))
+      go (inr h) = inr (omega (arith, length-take (d - 1) u.marks))
 
   -- calls that open no mark at its depth keep the mark open, or close it for good
   pub inside_run : {u v : State} (xs : List (Said k)) → Run k u xs v → Unmarked (depth s + 1) xs → Inside s u ⊎ (depth u < depth s + 1)

@@ -18,13 +18,12 @@ use Rattle.plans.proofs.TakingBack.{split, join, opens, left_run}
 abbrev Forward : {k : Kind} → Said k → Type 0
 Forward x = (number d : ℕ) → x ≡ (back number d, done) → ⊥
 
--- the latest mark at depth d
-record Latest {k : Kind} (d : ℕ) (xs : List (Said k)) : Type 0 where
-  before : List (Said k)
-  number : ℕ
-  since : List (Said k)
-  parts : xs ≡ before ++ ((mark, slip number d) ∷ since)
-  none_since : Unmarked d since
+-- the latest mark at depth d among the calls
+pub record MarkOf {k : Kind} (number d : ℕ) (xs : List (Said k)) : Type 0 where
+  pub before : List (Said k)
+  pub inner : List (Said k)
+  pub split : xs ≡ before ++ ((mark, slip number d) ∷ inner)
+  pub unmarked : Unmarked d inner
 
 -- t has the bounds of s, and then more
 record Grown (s : State) (more : List Row) (t : State) : Type 0 where
@@ -74,19 +73,17 @@ module _ {k : Kind} where
   marks_change d (keeps e l m f) = inr (λ number e. let g = ap (λ (x : Said k). x.0) e in cc)
   marks_change d (backs e l m f) = inr (λ number e. let g = ap (λ (x : Said k). x.0) e in cc)
 
-  latest : (d : ℕ) {s t : State} (xs : List (Said k)) → Run k s xs t → Latest d xs ⊎ Unmarked d xs
+  abbrev SomeMark : ℕ → List (Said k) → Type 0
+  SomeMark d xs = (number : ℕ) × MarkOf number d xs
+
+  latest : (d : ℕ) {s t : State} (xs : List (Said k)) → Run k s xs t → SomeMark d xs ⊎ Unmarked d xs
   latest d [] rests = inr (All-nil (OpensNone d))
   latest d (x ∷ xs) (goes {t = v} {c = c} {a = a} p r) = go (latest d xs r) (marks_change d (change c a v p))
     where
-      go : Latest d xs ⊎ Unmarked d xs → Marks d x → Latest d (x ∷ xs) ⊎ Unmarked d (x ∷ xs)
-      go (inl l) h = inl (record {
-        before = x ∷ l.before;
-        number = l.number;
-        since = l.since;
-        parts = ap {B = List (Said k)} (λ r. x ∷ r) l.parts;
-        none_since = l.none_since;
-      })
-      go (inr n) (inl h) = inl (record { before = []; number = h.0; since = xs; parts = ap {B = List (Said k)} (λ y. y ∷ xs) h.1; none_since = n })
+      go : SomeMark d xs ⊎ Unmarked d xs → Marks d x → SomeMark d (x ∷ xs) ⊎ Unmarked d (x ∷ xs)
+      go (inl l) h = let m = l.1 in
+          inl (l.0, record { before = x ∷ m.before; inner = m.inner; split = ap {B = List (Said k)} (λ r. x ∷ r) m.split; unmarked = m.unmarked })
+      go (inr n) (inl h) = inl (h.0, record { before = []; inner = xs; split = ap {B = List (Said k)} (λ y. y ∷ xs) h.1; unmarked = n })
       go (inr n) (inr h) = inr (All-cons (OpensNone d) x xs h n)
 
   number_change : {s t : State} {c : Call} {a : Answer k} → Change k s c a t → t.number ≡ s.number
@@ -109,17 +106,24 @@ module _ {k : Kind} where
   SomeLeft xs = (ys : List (Said k)) × Left xs ys
 
   module _ (s : State) (unmarked : depth s ≡ 0) where
+    -- a plan with a mark open at depth d comes from a run that opened it, and none there since
+    pub opened_mark : (d : ℕ) {u : State} (xs : List (Said k)) → Run k s xs u → 0 < d → d ≤ depth u → MarkOf u.number d xs
+    opened_mark d {u} xs r some deep = go (latest d xs r)
+      where
+        go : SomeMark d xs ⊎ Unmarked d xs → MarkOf u.number d xs
+        go (inr n) = let low : depth u < d = low_run d xs r n (omega arith) in absurd (omega arith)
+        go (inl m) =
+            let f = m.1 in
+            let h = split f.before ((mark, slip m.0 d) ∷ f.inner) (subst (λ (z : List (Said k)). Run k s z u) f.split r) in
+            subst (λ (j : ℕ). MarkOf j d xs) (mark_number m.0 d f.inner h.2) f
+
     -- an accepted back has its mark among the calls that are left
     back_left : {xs ys : List (Said k)} {u : State} {number d : ℕ} → Left xs ys → Run k s xs u → number ≡ u.number → 0 < d → d ≤ depth u
-        → Latest d ys ⊎ Unmarked d ys → SomeLeft (xs ++ (back number d, done) ∷ [])
-    back_left {xs} {ys} {u} {number} {d} l r e some deep (inr n) =
-        let low : depth u < d = low_run d ys (left_run l u r) n (omega arith) in absurd (omega arith)
-    back_left {xs} {ys} {u} {number} {d} l r e some deep (inl f) =
-        let run : Run k s (f.before ++ ((mark, slip f.number d) ∷ f.since)) u = subst (λ (z : List (Said k)). Run k s z u) f.parts (left_run l u r) in
-        let h = split f.before ((mark, slip f.number d) ∷ f.since) run in
-        let one : f.number ≡ number = mark_number f.number d f.since h.2 ∙ sym e in
-        let whole : ys ≡ f.before ++ ((mark, slip number d) ∷ f.since) = f.parts ∙ ap (λ (j : ℕ). f.before ++ ((mark, slip j d) ∷ f.since)) one in
-        (f.before, taken f.since number d (subst (Left xs) whole l) f.none_since)
+        → SomeLeft (xs ++ (back number d, done) ∷ [])
+    back_left {xs} {ys} {u} {number} {d} l r e some deep =
+        let f = opened_mark d ys (left_run l u r) some deep in
+        let whole : ys ≡ f.before ++ ((mark, slip number d) ∷ f.inner) = f.split ∙ ap (λ (j : ℕ). f.before ++ ((mark, slip j d) ∷ f.inner)) (sym e) in
+        (f.before, taken f.inner number d (subst (Left xs) whole l) f.unmarked)
 
     next_left : {xs ys : List (Said k)} {u v : State} {c : Call} {a : Answer k} → Left xs ys → Run k s xs u → Change k u c a v
         → SomeLeft (xs ++ (c, a) ∷ [])
@@ -128,7 +132,7 @@ module _ {k : Kind} where
     next_left l r (posts x e f g) = (_, further l (λ number d e. let g = ap (λ (x : Said k). x.0) e in cc))
     next_left l r (marks f) = (_, further l (λ number d e. let g = ap (λ (x : Said k). x.0) e in cc))
     next_left l r (keeps e n m f) = (_, further l (λ number d e. let g = ap (λ (x : Said k). x.0) e in cc))
-    next_left {ys = ys} {u = u} l r (backs {d = d} e n g f) = back_left l r e n g (latest d ys (left_run l u r))
+    next_left l r (backs e n g f) = back_left l r e n g
 
     some_left : (rest xs : List (Said k)) {ys : List (Said k)} {u t : State} → Left xs ys → Run k s xs u → Run k u rest t → SomeLeft (xs ++ rest)
     some_left [] xs {ys} l r rests = (ys, subst⁻¹ (λ (z : List (Said k)). Left z ys) (append-nil xs) l)
