@@ -1,16 +1,15 @@
 -- The calls of a run determine its answers, chains aside, and the plan. Assumes nothing.
-use Rattle.std.proofs.Common.{◌≡◌, ℕ, zero, suc, ◌+◌, ◌<◌, Bool, ◌⊎◌, List, [], ◌∷◌, ◌++◌, map, sym, refl, ap, ◌∙◌, subst, inl, inr, arith}
+use Rattle.std.proofs.Common.{◌≡◌, ℕ, zero, suc, ◌+◌, ◌<◌, Bool, ◌⊎◌, List, [], ◌∷◌, ◌++◌, map, sym, refl, ap, ◌∙◌, inl, inr, arith}
 use mathlib.Core.Path.{subst⁻¹}
 use Rattle.bounds.specs.declared.row.Row.{Row}
 use Rattle.delays.specs.Kind.{Kind, Exact, Lawful}
 use Rattle.network.specs.Chains.{ChainIn}
 use Rattle.network.proofs.Theorems.{chain_theory, earliest_theory}
-use Rattle.plans.specs.declared.fault.PlanFault.{PlanFault}
 use Rattle.plans.specs.Rows.{force, Times, tally, moved_count}
 use Rattle.plans.specs.Answers.{Call, settle, post, read, mark, keep, back, Answer, settled, moved, time, aside}
 use Rattle.plans.specs.States.{State, rows}
-use Rattle.plans.specs.Steps.{Ending, Becomes, Check, EachBound, Conflicts, Step}
-use Rattle.plans.specs.Runs.{Said, Run, rests, goes, call_of, answer_of, RunsAgree}
+use Rattle.plans.specs.Steps.{Ending, Becomes, EachBound, Conflicts, Step}
+use Rattle.plans.specs.Runs.{Run, rests, goes, answer_of, RunsAgree}
 
 -- tests that agree below n have the same tally
 pub tally_same : (f g : ℕ → Bool) (n : ℕ) → ((p : ℕ) → p < n → f p ≡ g p) → tally f n ≡ tally g n

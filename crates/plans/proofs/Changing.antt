@@ -100,3 +100,26 @@ module _ {k : Kind} {s : State} where
   change (back number d) = by_check (λ on. by_check (λ h a t p.
       let o = present s number d h in let e : d ≡ depth s = o.depth_is in
       becomes _ p (backs o.number_is o.is_open (omega arith) (not_false s.settled on))))
+
+-- what an accepted mark makes of the plan
+pub record Opens (s : State) (number d : ℕ) (t : State) : Type 0 where
+  pub number_is : number ≡ s.number
+  pub depth_is : d ≡ depth s + 1
+  pub settled : s.settled ≡ true
+  pub after : t ≡ marking s
+
+-- and what an accepted back
+pub record Shuts (s : State) (number d : ℕ) (t : State) : Type 0 where
+  pub number_is : number ≡ s.number
+  pub is_open : 0 < d
+  pub open_there : d ≤ depth s
+  pub after : t ≡ cutting (noted s d) (closing d s)
+
+module _ {k : Kind} where
+  pub opens : {s : State} {number d : ℕ} {t : State} → Change k s mark (slip number d) t → Opens s number d t
+  opens (same q) = absurd (q.no_slip _ _ refl)
+  opens (marks f) = record { number_is = refl; depth_is = refl; settled = f; after = refl }
+
+  pub shuts : {s : State} {number d : ℕ} {t : State} → Change k s (back number d) done t → Shuts s number d t
+  shuts (same q) = absurd (q.not_done refl)
+  shuts (backs e l m f) = record { number_is = e; is_open = l; open_there = m; after = refl }

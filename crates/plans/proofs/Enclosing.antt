@@ -1,40 +1,17 @@
 -- What a plan keeps of an open mark, while calls follow, and that a back to the mark brings the plan back. Assumes nothing.
-use Rattle.std.proofs.Common.{◌≡◌, ℕ, suc, ◌+◌, ◌-◌, ◌<◌, ◌≤◌, Bool, true, false, ◌⊎◌, List, [], ◌∷◌, ◌++◌, length, get_or, take, sym, refl, ap, ◌∙◌, inl, inr, append_assoc, append-nil, arith, length-append, length-take, take-take}
+use Rattle.std.proofs.Common.{◌≡◌, ℕ, ◌+◌, ◌-◌, ◌<◌, ◌≤◌, true, ◌⊎◌, List, [], ◌∷◌, ◌++◌, length, get_or, take, sym, refl, ap, ◌∙◌, inl, inr, arith, length-append, length-take, take-take}
 use Rattle.std.proofs.Math.Seq.{take-length, take-append_seam, get_or-append_seam}
 use Rattle.std.proofs.lemmas.List.{take-append-le, get_or_append_left, get_or-take, length-take-le}
-use Rattle.std.specs.List.{All}
-use Rattle.std.proofs.lemmas.List.Elements.{All-nil, All-push, All-take, All-get_or, All-head, All-tail}
-use Rattle.std.proofs.lemmas.Bool.{both_ways, cases_eq, cases_lt}
+use Rattle.std.proofs.lemmas.List.Elements.{All-tail}
+use Rattle.std.proofs.lemmas.Bool.{both_ways, cases_lt}
 use Rattle.bounds.specs.declared.row.Row.{Row}
 use Rattle.delays.specs.Kind.{Kind}
 use Rattle.books.specs.Meaning.{Meaning, with_bounds, cut_to}
-use Rattle.plans.specs.Answers.{Call, settle, post, read, mark, keep, back, Answer, slip, done}
-use Rattle.plans.specs.States.{State, rows, depth, posting, marking, closing, cutting, noted}
+use Rattle.plans.specs.Answers.{Call, Answer}
+use Rattle.plans.specs.States.{State, depth, marking, closing, cutting, noted}
 use Rattle.plans.specs.Runs.{Said, Run, rests, goes, Unmarked}
+use Rattle.plans.proofs.Parting.{OpensNone, low_run}
 use Rattle.plans.proofs.Changing.{Change, same, settles, posts, marks, keeps, backs, change}
-
--- the call with its answer opens no mark at depth d
-abbrev pub OpensNone : {k : Kind} → ℕ → Said k → Type 0
-OpensNone d x = (number : ℕ) → x ≡ (mark, slip number d) → ⊥
-
-module _ {k : Kind} where
-  -- a plan less deep than d stays so, where no mark is opened at depth d
-  low_change : (d : ℕ) {s t : State} {c : Call} {a : Answer k} → Change k s c a t → OpensNone {k = k} d (c, a) → depth s < d → depth t < d
-  low_change d (same q) n h = h
-  low_change d (settles x e f) n h = h
-  low_change d (posts x e f g) n h = h
-  low_change d {s} (marks f) n h = go (cases_eq (depth s + 1) d)
-    where
-      go : (depth s + 1 ≡ d) ⊎ (depth s + 1 ≡ d → ⊥) → depth (marking s) < d
-      go (inl e) = absurd (n s.number (ap {B = Said k} (λ (j : ℕ). (mark, slip s.number j)) e))
-      go (inr ne) = omega (arith, length-append s.marks (length s.book.added ∷ []))
-  low_change d {s} (keeps {d = i} e l m f) n h = omega (arith, length-take (i - 1) s.marks)
-  low_change d {s} (backs {d = i} e l m f) n h = omega (arith, length-take (i - 1) s.marks)
-
-  pub low_run : (d : ℕ) {s t : State} (xs : List (Said k)) → Run k s xs t → Unmarked d xs → depth s < d → depth t < d
-  low_run d [] rests n h = h
-  low_run d (x ∷ xs) (goes {t = v} {c = c} {a = a} p r) n h =
-      low_run d xs r (All-tail (OpensNone d) x xs n) (low_change d (change c a v p) (All-head (OpensNone d) x xs n) h)
 
 -- from place n on, each of the counts is at least low
 abbrev High : ℕ → ℕ → List ℕ → Type 0

@@ -1,5 +1,5 @@
 -- Conflicts are told exactly where no assignment meets the bounds, and reading gives the least assignment. Assumes nothing.
-use Rattle.std.proofs.Common.{◌≡◌, ℕ, ◌+◌, ◌<◌, ◌≤◌, true, false, ◌⊎◌, List, [], ◌∷◌, ◌++◌, map, length, refl, ap, ◌∙◌, subst, inl, inr, ⊎_elim, arith}
+use Rattle.std.proofs.Common.{◌≡◌, ℕ, ◌+◌, ◌<◌, ◌≤◌, true, false, ◌⊎◌, List, [], ◌∷◌, ◌++◌, map, length, ap, ◌∙◌, subst, inl, inr, ⊎_elim, arith}
 use mathlib.Core.Path.{subst⁻¹}
 use Rattle.std.specs.List.{All, Contains}
 use Rattle.std.proofs.lemmas.List.{length-map, get_or-map, map-append}
@@ -8,7 +8,7 @@ use Rattle.std.proofs.lemmas.Bool.{both_ways}
 use Rattle.bounds.specs.declared.row.Row.{Row}
 use Rattle.delays.specs.Kind.{Kind, Exact, Lawful}
 use Rattle.network.specs.Bounds.{ExactBound, floors}
-use Rattle.network.specs.Assignments.{Meets, Solution}
+use Rattle.network.specs.Assignments.{Meets}
 use Rattle.network.specs.Earliest.{Earliest}
 use Rattle.network.proofs.Orders.{sum_orders}
 use Rattle.network.proofs.Turning.{posted_either}
@@ -17,10 +17,10 @@ use Rattle.books.specs.declared.fault.BookFault.TheVariants.{Full}
 use Rattle.plans.specs.declared.fault.PlanFault.{PlanFault}
 use Rattle.plans.specs.declared.fault.PlanFault.TheVariants.{Conflict, Book}
 use Rattle.plans.specs.Rows.{exact_of, force, Fit, Covers, Covered, Solvable, Times, moved_count}
-use Rattle.plans.specs.Answers.{Call, settle, post, read, mark, keep, back, Answer, settled, covered, moved, time, refused}
+use Rattle.plans.specs.Answers.{settle, post, read, mark, keep, back, Answer, covered, moved, time, refused}
 use Rattle.plans.specs.States.{State, rows, posting}
 use Rattle.plans.specs.Steps.{Ending, Becomes, Check, EachBound, Conflicts, Step}
-use Rattle.plans.specs.Runs.{Said, Run, Opened, Tries, IsConflict, Judged, ConflictsTrue, ReadOut, ReadsLeast}
+use Rattle.plans.specs.Runs.{Opened, IsConflict, Judged, ConflictsTrue, ReadsLeast}
 use Rattle.plans.proofs.SoundPlans.{settled_timed}
 
 pub row_in_force : (k : Kind) (n : ℕ) (rows : List Row) (r : Row) → Contains rows r → Contains (force k n rows) (exact_of k r)

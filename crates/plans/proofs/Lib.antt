@@ -2,6 +2,7 @@ pub mod Agreeing
 pub mod Changing
 pub mod SoundPlans
 pub mod Judging
+pub mod Parting
 pub mod Enclosing
 pub mod TakingBack
 pub mod Remaining

@@ -1,42 +1,16 @@
 -- An accepted back takes back each call from its mark through itself. Assumes nothing.
-use Rattle.std.proofs.Common.{◌≡◌, ℕ, ◌+◌, ◌<◌, ◌≤◌, true, ◌⊎◌, List, [], ◌∷◌, ◌++◌, map, refl, ap, ◌∙◌, subst, inl, inr, append-nil, arith}
+use Rattle.std.proofs.Common.{◌≡◌, ℕ, ◌+◌, ◌<◌, ◌≤◌, true, ◌⊎◌, List, [], ◌∷◌, ◌++◌, ◌∙◌, subst, inl, inr, append-nil, arith}
+use mathlib.Core.Path.{subst⁻¹}
 use Rattle.delays.specs.Kind.{Kind, Lawful}
-use Rattle.plans.specs.Answers.{Call, mark, back, Answer, slip, done}
-use Rattle.plans.specs.States.{State, depth, marking, closing, cutting, noted}
-use Rattle.plans.specs.Runs.{Said, Run, rests, goes, Unmarked, BacksRestore, Left, start, further, taken}
+use Rattle.plans.specs.Answers.{mark, back, slip, done}
+use Rattle.plans.specs.States.{State, depth, closing, cutting, noted}
+use Rattle.plans.specs.Runs.{Said, Run, goes, Unmarked, BacksRestore, Left, start, further, taken}
 use Rattle.plans.proofs.Agreeing.{runs_agree}
-use Rattle.plans.proofs.Changing.{Change, same, marks, backs, change}
+use Rattle.plans.proofs.Changing.{Change, change, opens, shuts}
+use Rattle.plans.proofs.Parting.{MarkOf, split, join, opened_mark}
 use Rattle.plans.proofs.Enclosing.{Inside, inside_first, inside_run, back_restores}
 
--- what an accepted mark makes of the plan
-pub record Opens (s : State) (number d : ℕ) (t : State) : Type 0 where
-  pub number_is : number ≡ s.number
-  pub depth_is : d ≡ depth s + 1
-  pub settled : s.settled ≡ true
-  pub after : t ≡ marking s
-
--- and what an accepted back
-record Shuts (s : State) (d : ℕ) (t : State) : Type 0 where
-  open_there : d ≤ depth s
-  after : t ≡ cutting (noted s d) (closing d s)
-
 module _ {k : Kind} where
-  pub split : (xs ys : List (Said k)) {s t : State} → Run k s (xs ++ ys) t → (u : State) × Run k s xs u × Run k u ys t
-  split [] ys {s} r = (s, rests, r)
-  split (x ∷ xs) ys (goes p r) = let h = split xs ys r in (h.0, goes p h.1, h.2)
-
-  pub join : {s t u : State} {xs ys : List (Said k)} → Run k s xs u → Run k u ys t → Run k s (xs ++ ys) t
-  join rests q = q
-  join (goes p r) q = goes p (join r q)
-
-  pub opens : {s : State} {number d : ℕ} {t : State} → Change k s mark (slip number d) t → Opens s number d t
-  opens (same q) = absurd (q.no_slip _ _ refl)
-  opens (marks f) = record { number_is = refl; depth_is = refl; settled = f; after = refl }
-
-  shuts : {s : State} {number d : ℕ} {t : State} → Change k s (back number d) done t → Shuts s d t
-  shuts (same q) = absurd (q.not_done refl)
-  shuts (backs e l m f) = record { open_there = m; after = refl }
-
   -- the plan after the back is the one before the mark
   restored : {s v w t : State} {number d : ℕ} (inner : List (Said k)) → Change k s mark (slip number d) v → Run k v inner w
       → Change k w (back number d) done t → Unmarked d inner → t ≡ s
@@ -61,6 +35,15 @@ module _ {k : Kind} where
   unwind number d inner later (goes {t = v} p r) n =
       let h = split inner ((back number d, done) ∷ later) r in
       resume inner later (change mark (slip number d) v p) h.1 h.2 n
+
+  -- an accepted back has its mark among the calls before it
+  pub back_has_mark : {s t : State} (number d : ℕ) (earlier later : List (Said k)) → depth s ≡ 0 → Run k s (earlier ++ ((back number d, done) ∷ later)) t
+      → MarkOf number d earlier
+  back_has_mark {s} {t} number d earlier later none r = let h = split earlier ((back number d, done) ∷ later) r in go h.0 h.1 h.2
+    where
+      go : (u : State) → Run k s earlier u → Run k u ((back number d, done) ∷ later) t → MarkOf number d earlier
+      go u r (goes {t = v} q _) = let c = shuts (change (back number d) done v q) in
+          subst⁻¹ (λ (j : ℕ). MarkOf j d earlier) c.number_is (opened_mark d earlier none r c.is_open c.open_there)
 
   pub backs_restore : Lawful k → (s : State) → BacksRestore k s
   backs_restore laws s t number d before inner later r n =

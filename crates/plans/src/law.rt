@@ -5,7 +5,6 @@ ghost use Rattle.plans.specs.Runs.{Opened, RunsStand};
 use delays::Delay;
 
 // The law holds of the plans over each kind of delay.
-pub fn law_stands<D: Delay>(_zero: D)
+pub fn law_stands<D: Delay>()
     ensures { (s : State) → Opened s → RunsStand D.kind s }
-{
-}
+{}
