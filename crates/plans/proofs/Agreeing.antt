@@ -29,6 +29,7 @@ module _ {k : Kind} where
   abbrev Both : Ending k → Ending k → Type 0
   Both P Q = (a b : Answer k) (t u : State) → P a t → Q b u → (aside a ≡ aside b) × (t ≡ u)
 
+  -- one answer and one plan
   both_become : {x y : Answer k} {s v : State} → x ≡ y → s ≡ v → Both (Becomes x s) (Becomes y v)
   both_become e f a b t u p q = (ap aside (p.0 ∙ e ∙ sym q.0), p.1 ∙ f ∙ sym q.1)
 
@@ -42,17 +43,21 @@ module _ {k : Kind} where
   both_check h a b t u (inr p) (inl q) = absurd (p.0 q.0)
   both_check h a b t u (inr p) (inr q) = h a b t u p.1 q.1
 
+  -- the checks of the bounds, whatever follows them
   both_bounds : (s : State) (i : ℕ) (bounds : List Row) {P : Ending k} → Both P P → Both (EachBound k s i bounds P) (EachBound k s i bounds P)
   both_bounds s i [] h = h
   both_bounds s i (b ∷ bounds) h = both_check (both_check (both_bounds s (i + 1) bounds h))
 
 module _ {k : Kind} (laws : Lawful k) where
+  -- the earliest times of the points are one
   times_one : {n : ℕ} {bounds : List Row} {x y : ℕ → Exact k} → Times k n bounds x → Times k n bounds y → (p : ℕ) → p < n → x p ≡ y p
   times_one {n} {bounds} {x} {y} e f p h = (earliest_theory laws).one (force k n bounds) p (x p) (y p) (e.earliest p h) (f.earliest p h)
 
+  -- no chain where there are earliest times
   chain_or_times : {n : ℕ} {bounds : List Row} {x : ℕ → Exact k} {row : _} → ChainIn k (force k n bounds) row → Times k n bounds x → ⊥
   chain_or_times {n} {bounds} {x} {row} c e = (chain_theory laws).refutes (force k n bounds) row c x e.solution
 
+  -- a chain on both sides, or earliest times on both
   both_judge : (s : State) (bounds : List Row) (next : (ℕ → Exact k) → Ending k)
       → ((x y : ℕ → Exact k) → Times k s.points bounds x → Times k s.points bounds y → Both (next x) (next y))
       → Both (Conflicts k s bounds next) (Conflicts k s bounds next)
@@ -61,6 +66,7 @@ module _ {k : Kind} (laws : Lawful k) where
   both_judge s bounds next h a b t u (inr p) (inl q) = absurd (chain_or_times q.1 p.1)
   both_judge s bounds next h a b t u (inr p) (inr q) = h p.0 q.0 p.1 q.1 a b t u p.2 q.2
 
+  -- one call on one plan
   pub steps_agree : (s : State) (c : Call) → Both (Step k s c) (Step k s c)
   steps_agree s (settle length) =
       both_check (both_check (both_check (both_bounds s 0 (rows s) (both_judge s (rows s) _ (λ x y e f.
@@ -75,6 +81,7 @@ module _ {k : Kind} (laws : Lawful k) where
   steps_agree s (keep number d) = both_check (both_check (both_become refl refl))
   steps_agree s (back number d) = both_check (both_check (both_become refl refl))
 
+  -- and each call of two runs
   pub runs_agree : (s : State) → RunsAgree k s
   runs_agree s t u [] [] rests rests e = (refl, refl)
   runs_agree s t u [] (y ∷ ys) r q e = cc

@@ -29,6 +29,7 @@ pub data Change (k : Kind) (s : State) : Call → Answer k → State → Type 0 
   backs : {number d : ℕ} → number ≡ s.number → 0 < d → d ≤ depth s → s.settled ≡ true
       → Change k s (back number d) done (cutting (noted s d) (closing d s))
 
+-- a refusal leaves the plan as it is
 refused_quiet : {k : Kind} (c : Call) (fault : PlanFault) → Quiet {k = k} c (refused fault)
 refused_quiet {k} c fault = record { accepts_none = none c; no_slip = λ number d e. cc; not_done = λ e. cc }
   where
@@ -59,9 +60,11 @@ abbrev Makes : (k : Kind) → State → Call → Ending k → Type 0
 Makes k s c P = (a : Answer k) (t : State) → P a t → Change k s c a t
 
 module _ {k : Kind} {s : State} where
+  -- the answer and the plan that are told
   becomes : (c : Call) {x a : Answer k} {v t : State} → Becomes x v a t → Change k s c x v → Change k s c a t
   becomes c {x} {a} {v} {t} p h = subst⁻¹ (λ (y : Answer k). Change k s c y t) p.0 (subst⁻¹ (λ (z : State). Change k s c x z) p.1 h)
 
+  -- a check with a quiet answer changes nothing
   by_quiet : {c : Call} {bad : Type 0} {x : Answer k} {P : Ending k} → Quiet c x → ((bad → ⊥) → Makes k s c P)
       → Makes k s c (λ a t. (bad × Becomes x s a t) ⊎ ((bad → ⊥) × P a t))
   by_quiet {c} q f a t (inl p) = becomes c p.1 (same q)
@@ -79,6 +82,7 @@ module _ {k : Kind} {s : State} where
   by_judge {c} bounds next f a t (inl p) = becomes c p.2 (same (refused_quiet c _))
   by_judge bounds next f a t (inr p) = f p.0 p.1 a t p.2
 
+  -- each call with its answer makes one of the changes
   pub change : (c : Call) → Makes k s c (Step k s c)
   change (settle length) =
       by_check (λ off. by_check (λ _. by_check (λ _. by_bounds 0 (rows s) (by_judge (rows s) _ (λ x e a t p.

@@ -17,6 +17,7 @@ use Rattle.plans.proofs.Changing.{Change, same, settles, posts, marks, keeps, ba
 abbrev High : ℕ → ℕ → List ℕ → Type 0
 High low n counts = (i : ℕ) → n ≤ i → i < length counts → low ≤ get_or counts i 0
 
+-- one count more
 high_push : (low n : ℕ) (counts : List ℕ) (x : ℕ) → High low n counts → low ≤ x → High low n (counts ++ x ∷ [])
 high_push low n counts x h up i l m = go (cases_lt i (length counts))
   where
@@ -47,6 +48,7 @@ pub record Inside (s u : State) : Type 0 where
   marks : MarksInside (length s.book.added) s.marks u.marks
 
 module _ {old new : Meaning} (i : BookInside old new) where
+  -- a bound more
   book_added : (b : Row) → (new.free ≡ 0 → ⊥) → BookInside old (with_bounds new (b ∷ []))
   book_added b some = let more = length-append new.added (b ∷ []) in let long = i.long in record {
     fixed_is = i.fixed_is;
@@ -55,6 +57,7 @@ module _ {old new : Meaning} (i : BookInside old new) where
     room = omega (arith, more, i.room);
   }
 
+  -- a cut that leaves what stood in the old book
   book_cut : (m : ℕ) → length old.added ≤ m → BookInside old (cut_to new m)
   book_cut m h = let left = length-take m new.added in record {
     fixed_is = i.fixed_is;
@@ -64,6 +67,7 @@ module _ {old new : Meaning} (i : BookInside old new) where
   }
 
 module _ {count : ℕ} {old new : List ℕ} (i : MarksInside count old new) where
+  -- a mark more
   marks_more : (x : ℕ) → count ≤ x → MarksInside count old (new ++ x ∷ [])
   marks_more x up = let deep = i.deep in record {
     deep = omega (arith, length-append new (x ∷ []));
@@ -72,6 +76,7 @@ module _ {count : ℕ} {old new : List ℕ} (i : MarksInside count old new) wher
     high = high_push count (length old) new x i.high up;
   }
 
+  -- a mark opened since is closed
   marks_fewer : (m : ℕ) → length old < m → m ≤ length new → MarksInside count old (take m new)
   marks_fewer m h l = let left : length (take m new) ≡ m = length-take-le m new l in record {
     deep = omega arith;
@@ -80,6 +85,7 @@ module _ {count : ℕ} {old new : List ℕ} (i : MarksInside count old new) wher
     high = λ j up low. rw (get_or-take m new j 0 (omega arith)) (i.high j up (omega arith));
   }
 
+-- a mark that was just opened
 pub inside_first : {s : State} → s.settled ≡ true → Inside s (marking s)
 inside_first {s} f = let count = length s.book.added in record {
   points_is = refl;

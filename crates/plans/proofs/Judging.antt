@@ -23,6 +23,7 @@ use Rattle.plans.specs.Steps.{Ending, Becomes, Check, EachBound, Conflicts, Step
 use Rattle.plans.specs.Runs.{Opened, IsConflict, Judged, ConflictsTrue, ReadsLeast}
 use Rattle.plans.proofs.SoundPlans.{settled_timed}
 
+-- a row of the book is in force
 pub row_in_force : (k : Kind) (n : ℕ) (rows : List Row) (r : Row) → Contains rows r → Contains (force k n rows) (exact_of k r)
 row_in_force k n rows r h =
     let low : h.0 < length rows = h.1 in
@@ -55,14 +56,17 @@ module _ {k : Kind} (laws : Lawful k) where
   abbrev Gives : ℕ → List Row → Ending k → Type 0
   Gives n bounds P = (a : Answer k) (t : State) → P a t → Judged k n bounds a
 
+  -- a check that does not refuse
   pass : {n : ℕ} (bounds : List Row) {s : State} {bad : Type 0} {x : PlanFault} {P : Ending k} → (bad → ⊥) → Gives n bounds P → Gives n bounds (Check s bad x P)
   pass bounds h f a t (inl p) = absurd (h p.0)
   pass bounds h f a t (inr p) = f a t p.1
 
+  -- a bound that fits has both points
   outside : (n : ℕ) (b : Row) → Fit k n b → (n ≤ b.left) ⊎ (n ≤ b.right) → ⊥
   outside n b h (inl o) = let l : b.left < n = h.left in omega arith
   outside n b h (inr o) = let l : b.right < n = h.right in omega arith
 
+  -- bounds that all fit pass their checks
   pass_bounds : {n : ℕ} (all : List Row) (s : State) (i : ℕ) (bounds : List Row) {P : Ending k} → All (Fit k s.points) bounds → Gives n all P
       → Gives n all (EachBound k s i bounds P)
   pass_bounds all s i [] h f = f
@@ -70,6 +74,7 @@ module _ {k : Kind} (laws : Lawful k) where
       let first = All-head (Fit k s.points) b bounds h in
       pass all (outside s.points b first) (pass all first.read (pass_bounds all s (i + 1) bounds (All-tail (Fit k s.points) b bounds h) f))
 
+  -- bounds that are met give no conflict
   met : (n : ℕ) (bounds : List Row) {a : Answer k} → Solvable k n bounds → (IsConflict a → ⊥) → Judged k n bounds a
   met n bounds x h = record { refuted = λ c _. h c; reported = λ none. absurd (none x); chain = λ c e. absurd (h (c, e)) }
 
@@ -106,12 +111,14 @@ module _ {k : Kind} (laws : Lawful k) where
   no_conflict t b x a u (inl p) c = let e = p.1.0 in let f = c.1 in cc
   no_conflict t b x a u (inr p) c = let e = p.1.2.0 in let f = c.1 in cc
 
+  -- a post, where some assignment meets the bounds in force
   post_judged : (t : State) (len : ℕ) (b : Row) → t.settled ≡ true → Fit k t.points b → t.points ≤ len → Solvable k t.points (rows t)
       → Gives t.points (rows t ++ b ∷ []) (Step k t (post len b))
   post_judged t len b on fit long now = let all = rows t ++ b ∷ [] in
       pass all (λ off. both_ways t.settled off on) (pass all (λ l. outside t.points b fit (inl l)) (pass all (λ l. outside t.points b fit (inr l))
       (pass all fit.read (pass all (λ l. omega arith) (cover_judged t b now (judged all _ (no_conflict t b)))))))
 
+  -- a conflict exactly when no assignment meets the bounds in question
   pub conflicts_true : (s : State) → Opened s → ConflictsTrue k s
   conflicts_true s o t u xs (settle len) a bounds r h p =
       subst⁻¹ (λ (l : List Row). Judged k t.points l a) h.5 (settle_judged t len h.0 h.1 h.2 h.3 h.4 a u p)
@@ -122,6 +129,7 @@ module _ {k : Kind} (laws : Lawful k) where
   conflicts_true s o t u xs (keep number d) a bounds r h p = absurd h
   conflicts_true s o t u xs (back number d) a bounds r h p = absurd h
 
+  -- the earliest times are the times that reading gives
   pub reads_least : (s : State) → Opened s → ReadsLeast k s
   reads_least s o t xs r f = let h = settled_timed o r f in let e = h.1.earliest in record {
     times = h.0;

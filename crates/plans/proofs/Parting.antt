@@ -16,6 +16,7 @@ OpensNone d x = (number : ℕ) → x ≡ (mark, slip number d) → ⊥
 pub record MarkOf {k : Kind} (number d : ℕ) (xs : List (Said k)) : Type 0 where
   pub before : List (Said k)
   pub inner : List (Said k)
+  -- a run goes through a plan between two parts
   pub split : xs ≡ before ++ ((mark, slip number d) ∷ inner)
   pub unmarked : Unmarked d inner
 
@@ -41,6 +42,7 @@ module _ {k : Kind} where
   low_change d {s} (keeps {d = i} e l m f) n h = omega (arith, length-take (i - 1) s.marks)
   low_change d {s} (backs {d = i} e l m f) n h = omega (arith, length-take (i - 1) s.marks)
 
+  -- and so after many calls
   pub low_run : (d : ℕ) {s t : State} (xs : List (Said k)) → Run k s xs t → Unmarked d xs → depth s < d → depth t < d
   low_run d [] rests n h = h
   low_run d (x ∷ xs) (goes {t = v} {c = c} {a = a} p r) n h =
@@ -65,6 +67,7 @@ module _ {k : Kind} where
   abbrev SomeMark : ℕ → List (Said k) → Type 0
   SomeMark d xs = (number : ℕ) × MarkOf number d xs
 
+  -- the latest mark at depth d, or none
   latest : (d : ℕ) {s t : State} (xs : List (Said k)) → Run k s xs t → SomeMark d xs ⊎ Unmarked d xs
   latest d [] rests = inr (All-nil (OpensNone d))
   latest d (x ∷ xs) (goes {t = v} {c = c} {a = a} p r) = go (latest d xs r) (marks_change d (change c a v p))
@@ -87,6 +90,7 @@ module _ {k : Kind} where
   number_run rests = refl
   number_run (goes {t = v} {c = c} {a = a} p r) = number_run r ∙ number_change (change c a v p)
 
+  -- a slip has the number of the plan, and that never changes
   mark_number : {v u : State} (number d : ℕ) (inner : List (Said k)) → Run k v ((mark, slip number d) ∷ inner) u → number ≡ u.number
   mark_number number d inner (goes {t = w} p r) =
       let c = change mark (slip number d) w p in (opens c).number_is ∙ sym (number_run r ∙ number_change c)

@@ -31,6 +31,7 @@ module _ {k : Kind} where
       let rest = (mark, slip number d) ∷ inner in
       rw (take-append_seam ys ((mark, slip number d) ∷ inner)) at (All-take Forward (length ys) (ys ++ ((mark, slip number d) ∷ inner)) (left_forward l))
 
+  -- a call that takes nothing back adds the bound that it accepted
   grown_change : {s t : State} {c : Call} {a : Answer k} → Change k s c a t → Forward {k = k} (c, a) → Grown s (accepted c a) t
   grown_change {s} (same q) n = record { fixed_is = refl; added_is = sym (ap (λ (l : List Row). s.book.added ++ l) q.accepts_none ∙ append-nil s.book.added) }
   grown_change {s} (settles x e f) n = record { fixed_is = refl; added_is = sym (append-nil s.book.added) }
@@ -61,6 +62,7 @@ module _ {k : Kind} where
         let whole : ys ≡ f.before ++ ((mark, slip number d) ∷ f.inner) = f.split ∙ ap (λ (j : ℕ). f.before ++ ((mark, slip j d) ∷ f.inner)) (sym e) in
         (f.before, taken f.inner number d (subst (Left xs) whole l) f.unmarked)
 
+    -- one call more
     next_left : {xs ys : List (Said k)} {u v : State} {c : Call} {a : Answer k} → Left xs ys → Run k s xs u → Change k u c a v
         → SomeLeft (xs ++ (c, a) ∷ [])
     next_left l r (same q) = (_, further l (λ number d e. q.not_done (ap (λ (x : Said k). x.1) e)))
@@ -70,6 +72,7 @@ module _ {k : Kind} where
     next_left l r (keeps e n m f) = (_, further l (λ number d e. let g = ap (λ (x : Said k). x.0) e in cc))
     next_left l r (backs e n g f) = back_left l r e n g
 
+    -- of every run something is left
     some_left : (rest xs : List (Said k)) {ys : List (Said k)} {u t : State} → Left xs ys → Run k s xs u → Run k u rest t → SomeLeft (xs ++ rest)
     some_left [] xs {ys} l r rests = (ys, subst⁻¹ (λ (z : List (Said k)). Left z ys) (append-nil xs) l)
     some_left (x ∷ rest) xs l r (goes {t = v} {c = c} {a = a} p q) =
@@ -77,6 +80,7 @@ module _ {k : Kind} where
         let h = some_left rest (xs ++ (c, a) ∷ []) n.1 (join r (goes p rests)) q in
         (h.0, subst (λ (z : List (Said k)). Left z h.0) (append_assoc xs ((c, a) ∷ []) rest) h.1)
 
+  -- what is left takes nothing back, so it adds each bound that it accepted
   pub books_stand : (s : State) → Opened s → BooksStand k s
   books_stand s o t xs r = (
     some_left s (ap length o.unmarked) xs [] start rests r,

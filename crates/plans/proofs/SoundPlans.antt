@@ -23,11 +23,13 @@ abbrev Marked : Kind → ℕ → List Row → List Row → List ℕ → Type 0
 Marked k n fixed added [] = Unit {0}
 Marked k n fixed added (m ∷ ms) = (m ≤ length added) × Timed k n (fixed ++ take m added) × All (λ j. m ≤ j) ms × Marked k n fixed added ms
 
+-- a settled plan has earliest times, and its marks noted such cuts
 pub record Sound (k : Kind) (s : State) : Type 0 where
   pub times : s.settled ≡ true → Timed k s.points (rows s)
   pub marked : Marked k s.points s.book.fixed s.book.added s.marks
 
 module _ (k : Kind) (n : ℕ) (fixed : List Row) where
+  -- a bound more leaves the cuts as they were
   marked_post : (added : List Row) (b : Row) (ms : List ℕ) → Marked k n fixed added ms → Marked k n fixed (added ++ b ∷ []) ms
   marked_post added b [] h = tt
   marked_post added b (m ∷ ms) h =
@@ -38,16 +40,19 @@ module _ (k : Kind) (n : ℕ) (fixed : List Row) where
         marked_post added b ms h.3,
       )
 
+  -- a mark more notes what has earliest times now
   marked_mark : (added : List Row) (ms : List ℕ) → Timed k n (fixed ++ added) → Marked k n fixed added ms → Marked k n fixed added (ms ++ length added ∷ [])
   marked_mark added [] x h =
       (omega arith, subst⁻¹ (λ (l : List Row). Timed k n (fixed ++ l)) (take-length added) x, All-nil (λ j. length added ≤ j), tt)
   marked_mark added (m ∷ ms) x h = (h.0, h.1, All-push (λ j. m ≤ j) ms (length added) h.2 h.0, marked_mark added ms x h.3)
 
+  -- fewer marks
   marked_close : (added : List Row) (ms : List ℕ) (i : ℕ) → Marked k n fixed added ms → Marked k n fixed added (take i ms)
   marked_close added ms zero h = tt
   marked_close added [] (suc i) h = tt
   marked_close added (m ∷ ms) (suc i) h = (h.0, h.1, All-take (λ j. m ≤ j) i ms h.2, marked_close added ms i h.3)
 
+  -- a cut to a mark leaves the cuts of the marks before it
   marked_cut : (added : List Row) (ms : List ℕ) (i : ℕ) → i < length ms → Marked k n fixed added ms → Marked k n fixed (take (get_or ms i 0) added) (take i ms)
   marked_cut added ms zero l h = tt
   marked_cut added [] (suc i) l h = tt
@@ -60,12 +65,14 @@ module _ (k : Kind) (n : ℕ) (fixed : List Row) where
         marked_cut added ms i (omega arith) h.3,
       )
 
+  -- a cut to a mark has earliest times
   timed_cut : (added : List Row) (ms : List ℕ) (i : ℕ) → i < length ms → Marked k n fixed added ms → Timed k n (fixed ++ take (get_or ms i 0) added)
   timed_cut added [] i l h = absurd (omega arith)
   timed_cut added (m ∷ ms) zero l h = h.1
   timed_cut added (m ∷ ms) (suc i) l h = timed_cut added ms i (omega arith) h.3
 
 module _ {k : Kind} where
+  -- a call keeps it so
   sound_change : {s t : State} {c : Call} {a : Answer k} → Change k s c a t → Sound k s → Sound k t
   sound_change (same q) h = h
   sound_change (settles x e f) h = record { times = λ _. (x, e); marked = h.marked }
@@ -92,6 +99,7 @@ module _ {k : Kind} where
     marked = subst⁻¹ (Marked k s.points s.book.fixed s.book.added) o.unmarked tt;
   }
 
+  -- and so does every run
   pub sound_run : {s t : State} {xs : List (Said k)} → Run k s xs t → Sound k s → Sound k t
   sound_run rests h = h
   sound_run (goes {t = v} {c = c} {a = a} p r) h = sound_run r (sound_change (change c a v p) h)

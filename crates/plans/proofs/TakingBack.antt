@@ -45,6 +45,7 @@ module _ {k : Kind} where
       go u r (goes {t = v} q _) = let c = shuts (change (back number d) done v q) in
           subst⁻¹ (λ (j : ℕ). MarkOf j d earlier) c.number_is (opened_mark d earlier none r c.is_open c.open_there)
 
+  -- the run without the calls, and by it the answers
   pub backs_restore : Lawful k → (s : State) → BacksRestore k s
   backs_restore laws s t number d before inner later r n =
       let h = split before _ r in
