@@ -12,15 +12,15 @@ use Rattle.plans.proofs.Changing.{Change, same, settles, posts, marks, keeps, ba
 abbrev pub OpensNone : {k : Kind} → ℕ → Said k → Type 0
 OpensNone d x = (number : ℕ) → x ≡ (mark, slip number d) → ⊥
 
--- the latest mark at depth d among the calls
+-- the latest mark at depth d among the calls, which gave the slip with this number
 pub record MarkOf {k : Kind} (number d : ℕ) (xs : List (Said k)) : Type 0 where
   pub before : List (Said k)
   pub inner : List (Said k)
-  -- a run goes through a plan between two parts
   pub split : xs ≡ before ++ ((mark, slip number d) ∷ inner)
   pub unmarked : Unmarked d inner
 
 module _ {k : Kind} where
+  -- a run goes through a plan between two parts
   pub split : (xs ys : List (Said k)) {s t : State} → Run k s (xs ++ ys) t → (u : State) × Run k s xs u × Run k u ys t
   split [] ys {s} r = (s, rests, r)
   split (x ∷ xs) ys (goes p r) = let h = split xs ys r in (h.0, goes p h.1, h.2)
