@@ -1,2 +1,11 @@
 pub mod Least
 pub mod Sounds
+pub mod Agreeing
+pub mod Changing
+pub mod SoundPlans
+pub mod Judging
+pub mod Parting
+pub mod Enclosing
+pub mod TakingBack
+pub mod Remaining
+pub mod AllRuns

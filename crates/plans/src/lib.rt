@@ -8,6 +8,7 @@ pub mod plan;
 mod question;
 pub mod posted;
 pub mod slip;
+pub mod law;
 
 pub use fault::PlanFault;
 pub use plan::Plan;

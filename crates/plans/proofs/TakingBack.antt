@@ -1,0 +1,62 @@
+-- An accepted back takes back each call from its mark through itself. Assumes nothing.
+use Rattle.std.proofs.Common.{◌≡◌, ℕ, ◌+◌, ◌<◌, ◌≤◌, true, ◌⊎◌, List, [], ◌∷◌, ◌++◌, ◌∙◌, subst, inl, inr, append-nil, arith}
+use mathlib.Core.Path.{subst⁻¹}
+use Rattle.delays.specs.Kind.{Kind, Lawful}
+use Rattle.plans.specs.Answers.{mark, back, slip, done}
+use Rattle.plans.specs.States.{State, depth, closing, cutting, noted}
+use Rattle.plans.specs.Runs.{Said, Run, goes, Unmarked, BacksRestore, Left, start, further, taken}
+use Rattle.plans.proofs.Agreeing.{runs_agree}
+use Rattle.plans.proofs.Changing.{Change, change, opens, shuts}
+use Rattle.plans.proofs.Parting.{MarkOf, split, join, opened_mark}
+use Rattle.plans.proofs.Enclosing.{Inside, inside_first, inside_run, back_restores}
+
+module _ {k : Kind} where
+  -- the plan after the back is the one before the mark
+  restored : {s v w t : State} {number d : ℕ} (inner : List (Said k)) → Change k s mark (slip number d) v → Run k v inner w
+      → Change k w (back number d) done t → Unmarked d inner → t ≡ s
+  restored {s} {v} {w} {t} {number} {d} inner p r q n =
+      let o = opens p in
+      let c = shuts q in
+      c.after ∙ go o.settled o.depth_is c.open_there
+      (inside_run inner (subst (λ (z : State). Run k z inner w) o.after r) (subst (λ (j : ℕ). Unmarked j inner) o.depth_is n) (inl (inside_first o.settled)))
+    where
+      go : s.settled ≡ true → d ≡ depth s + 1 → d ≤ depth w → Inside s w ⊎ (depth w < depth s + 1) → cutting (noted w d) (closing d w) ≡ s
+      go f e g (inl i) = back_restores i f d e
+      go f e g (inr l) = absurd (omega arith)
+
+  resume : {s v w t : State} {number d : ℕ} (inner later : List (Said k)) → Change k s mark (slip number d) v → Run k v inner w
+      → Run k w ((back number d, done) ∷ later) t → Unmarked d inner → Run k s later t
+  resume {t = t} {number = number} {d = d} inner later p r (goes {t = x} q rest) n =
+      subst (λ (z : State). Run k z later t) (restored inner p r (change (back number d) done x q) n) rest
+
+  -- the calls after the back go on from the plan before the mark
+  pub unwind : {s t : State} (number d : ℕ) (inner later : List (Said k))
+      → Run k s ((mark, slip number d) ∷ (inner ++ ((back number d, done) ∷ later))) t → Unmarked d inner → Run k s later t
+  unwind number d inner later (goes {t = v} p r) n =
+      let h = split inner ((back number d, done) ∷ later) r in
+      resume inner later (change mark (slip number d) v p) h.1 h.2 n
+
+  -- an accepted back has its mark among the calls before it
+  pub back_has_mark : {s t : State} (number d : ℕ) (earlier later : List (Said k)) → depth s ≡ 0 → Run k s (earlier ++ ((back number d, done) ∷ later)) t
+      → MarkOf number d earlier
+  back_has_mark {s} {t} number d earlier later none r = let h = split earlier ((back number d, done) ∷ later) r in go h.0 h.1 h.2
+    where
+      go : (u : State) → Run k s earlier u → Run k u ((back number d, done) ∷ later) t → MarkOf number d earlier
+      go u r (goes {t = v} q _) = let c = shuts (change (back number d) done v q) in
+          subst⁻¹ (λ (j : ℕ). MarkOf j d earlier) c.number_is (opened_mark d earlier none r c.is_open c.open_there)
+
+  -- the run without the calls, and by it the answers
+  pub backs_restore : Lawful k → (s : State) → BacksRestore k s
+  backs_restore laws s t number d before inner later r n =
+      let h = split before _ r in
+      let short : Run k s (before ++ later) t = join h.1 (unwind number d inner later h.2 n) in
+      (short, λ u ys q e. runs_agree laws s u t ys (before ++ later) q short e)
+
+  -- what is left of a run is a run to the same plan
+  pub left_run : {s : State} {xs ys : List (Said k)} → Left xs ys → (t : State) → Run k s xs t → Run k s ys t
+  left_run start t r = r
+  left_run (further {xs} {ys} {x} l n) t r = let h = split xs (x ∷ []) r in join (left_run l h.0 h.1) h.2
+  left_run {s} (taken {xs} {ys} inner number d l n) t r =
+      let h = split xs ((back number d, done) ∷ []) r in
+      let i = split ys ((mark, slip number d) ∷ inner) (left_run l h.0 h.1) in
+      subst (λ (z : List (Said k)). Run k s z t) (append-nil ys) (join i.1 (unwind number d inner [] (join i.2 h.2) n))
