@@ -1,3 +1,4 @@
+pub mod Misfitting
 pub mod Numbering
 pub mod Passing
 pub mod Tallies

@@ -24,6 +24,6 @@ loop-point-preserved g c =
     = moved_more g.met.D.Delay.lawful x y n (d.means u) (d.means v) one c.time_at.ensures c.time_at-in-loop-point.ensures (g.met.D.Delay.equal u v) in
     let sum = λ (b : Bool). moved_count d.kind n x y + cond b 1 0 in
     elim c.if-ne.branch [
-      then-ne w ↦ w.count-is ∙ ap (λ m. m + 1) c.loop-point.invariant ∙ ap sum (sym w.if-ne.true ∙ c.ne.ensures) ∙ sym more
-    | else-ne w ↦ w.count-is ∙ c.loop-point.invariant ∙ sym (add-zero _) ∙ ap sum (sym w.if-ne.false ∙ c.ne.ensures) ∙ sym more
+      | then-ne w ↦ w.count-is ∙ ap (λ m. m + 1) c.loop-point.invariant ∙ ap sum (sym w.if-ne.true ∙ c.ne.ensures) ∙ sym more
+      | else-ne w ↦ w.count-is ∙ c.loop-point.invariant ∙ sym (add-zero _) ∙ ap sum (sym w.if-ne.false ∙ c.ne.ensures) ∙ sym more
     ]
