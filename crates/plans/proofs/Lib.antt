@@ -9,3 +9,7 @@ pub mod Enclosing
 pub mod TakingBack
 pub mod Remaining
 pub mod AllRuns
+pub mod Misfitting
+pub mod Numbering
+pub mod Passing
+pub mod Tallies

@@ -10,3 +10,4 @@ pub mod Labels
 pub mod Rounds
 pub mod Soundness
 pub mod Plans
+pub mod Misfits

@@ -2,7 +2,7 @@
 -- Assumes nothing.
 use Rattle.std.specs.Prelude.{◌≡◌, ℕ, ◌+◌, ◌*◌, ◌<◌, ◌≤◌, Bool, true, false, List, length}
 use Rattle.delays.specs.Kind.{Kind, Exact}
-use Rattle.network.specs.Bounds.{ExactBound, Bounds}
+use Rattle.network.specs.Bounds.{Bounds}
 use Rattle.network.specs.Assignments.{Le, Lt, Meets}
 use Rattle.network.specs.Earliest.{Reached}
 use Rattle.network.specs.Rounds.{carry}

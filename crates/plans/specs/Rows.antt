@@ -1,5 +1,5 @@
 -- The bounds of a plan: the exact bounds that rows say, which rows a plan can take, covers, and earliest times. Assumes nothing.
-use Rattle.std.specs.Prelude.{◌≡◌, ℕ, ◌+◌, ◌<◌, zero, suc, Bool, true, false, not, ◌&&◌, cond, List, map, All, Contains}
+use Rattle.std.specs.Prelude.{◌≡◌, ℕ, ◌+◌, ◌<◌, zero, suc, Bool, not, ◌&&◌, cond, List, map, Contains}
 use Rattle.bounds.specs.declared.row.Row.{Row}
 use Rattle.delays.specs.Kind.{Kind, Exact, Unread}
 use Rattle.network.specs.Bounds.{ExactBound, Bounds, bounds_in_force}

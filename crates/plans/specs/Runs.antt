@@ -5,7 +5,6 @@ use Rattle.delays.specs.Kind.{Kind, Exact}
 use Rattle.network.specs.Bounds.{Bounds}
 use Rattle.network.specs.Assignments.{Le, Solution}
 use Rattle.network.specs.Chains.{ChainIn}
-use Rattle.plans.specs.declared.fault.PlanFault.{PlanFault}
 use Rattle.plans.specs.declared.fault.PlanFault.TheVariants.{Conflict}
 use Rattle.plans.specs.Rows.{force, Fit, Solvable}
 use Rattle.plans.specs.Answers.{Call, settle, post, read, mark, keep, back, Answer, settled, covered, moved, time, slip, done, refused, aside}

@@ -98,9 +98,15 @@ impl fmt::Display for PlanFault {
             PlanFault::SettledAlready => write!(f, "the plan is settled already"),
             PlanFault::Points => write!(f, "the number of points is not from 1 to 128"),
             PlanFault::ListShort => write!(f, "the list is shorter than the number of points"),
-            PlanFault::Point { place } => write!(f, "a point is not below the number of points (place {place})"),
+            PlanFault::Point { place } => write!(
+                f,
+                "a point is not below the number of points (place {place})"
+            ),
             PlanFault::Kind { fault, place } => write!(f, "{fault} (place {place})"),
-            PlanFault::Conflict { length } => write!(f, "the bounds in force hold a chain of {length}"),
+            PlanFault::Conflict { length } => write!(
+                f,
+                "the bounds in force hold a chain of {length}"
+            ),
             PlanFault::MarksFull => write!(f, "eight marks are open"),
             PlanFault::WrongSlip => write!(f, "the slip is not the plan's present one"),
             PlanFault::Bound(e) => write!(f, "{e}"),

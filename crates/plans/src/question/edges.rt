@@ -21,7 +21,7 @@ pub(crate) fn edge_of<D: Delay>(row: Row) -> Edge<D>
     Edge {
         left: row.left as usize,
         right: row.right as usize,
-        delay: D::read(row.t as i64, row.s as i64).unwrap(),
+        delay: D::read(i64::from(row.t), i64::from(row.s)).unwrap(),
     }
 }
 

@@ -1,0 +1,70 @@
+-- The check of each bound at settle, from the first that does not fit. Assumes nothing.
+use Rattle.std.proofs.Common.{◌≡◌, ℕ, zero, suc, ◌+◌, ◌<◌, List, [], ◌∷◌, length, Err, sym, refl, ap, ◌∙◌, subst, inl, inr, ⊎_elim, arith}
+use Rattle.std.specs.List.{All}
+use Rattle.bounds.specs.declared.row.Row.{Row}
+use Rattle.delays.specs.Kind.{Kind}
+use Rattle.delays.specs.declared.fault.KindFault.TheVariants.{Unread as unread}
+use Rattle.plans.specs.declared.fault.PlanFault.{PlanFault}
+use Rattle.plans.specs.declared.fault.PlanFault.TheVariants.{Unsettled, SettledAlready, Points, ListShort, Point, Kind as KindRefuses, Conflict, MarksFull, WrongSlip, Bound, Book}
+use Rattle.plans.specs.Rows.{Fit}
+use Rattle.plans.specs.Misfits.{Outside, Misfit, FitBefore, RowsChecked}
+use Rattle.plans.specs.Answers.{Answer, refused}
+use Rattle.plans.specs.States.{State, rows}
+use Rattle.plans.specs.Steps.{Ending, EachBound}
+
+module _ (k : Kind) (s : State) (next : Ending k) where
+  -- points that are below the plan's are not outside
+  inside : (r : Row) → r.left < s.points → r.right < s.points → Outside k s.points r → ⊥
+  inside r l m = ⊎_elim (λ h. let e : ⊥ = omega arith in e) (λ h. let e : ⊥ = omega arith in e)
+
+  each_fits : (a : Answer k) (t : State) (i : ℕ) (bs : List Row) → All (Fit k s.points) bs → next a t → EachBound k s i bs next a t
+  each_fits a t i [] fit then = then
+  each_fits a t i (b ∷ bs) fit then =
+      let here : Fit k s.points b = fit 0 b (omega arith) in
+      inr (inside b here.left here.right, inr (here.read, each_fits a t (i + 1) bs (λ j d h. fit (suc j) d (omega arith)) then))
+
+  module _ (fault : PlanFault) (a : Answer k) (t : State) (answer : a ≡ refused fault) (same : t ≡ s) where
+    -- the row that does not fit is refused
+    refused_here : (f : PlanFault) (m i : ℕ) (b : Row) (bs : List Row) → f ≡ fault → m ≡ i → Misfit k s.points m b f → EachBound k s i (b ∷ bs) next a t
+    refused_here (Point place) m i b bs f e h = inl (h.1, (answer ∙ sym (ap refused f) ∙ ap (λ p. refused (Point p)) (h.0 ∙ e), same))
+    refused_here (KindRefuses unread place) m i b bs f e h =
+        let why = h.1 in
+        inr (inside b why.left why.right, inl (why.unread, (answer ∙ sym (ap refused f) ∙ ap (λ p. refused (KindRefuses unread p)) (h.0 ∙ e), same)))
+    refused_here Unsettled m i b bs f e h = absurd h
+    refused_here SettledAlready m i b bs f e h = absurd h
+    refused_here Points m i b bs f e h = absurd h
+    refused_here ListShort m i b bs f e h = absurd h
+    refused_here (Conflict length) m i b bs f e h = absurd h
+    refused_here MarksFull m i b bs f e h = absurd h
+    refused_here WrongSlip m i b bs f e h = absurd h
+    refused_here (Bound x) m i b bs f e h = absurd h
+    refused_here (Book x) m i b bs f e h = absurd h
+
+    each_misfit : (m i j : ℕ) (bs : List Row) → m ≡ i + j → FitBefore k s.points bs j (λ r. Misfit k s.points m r fault) → EachBound k s i bs next a t
+    each_misfit m i j [] e h = absurd (let low = h.number in let never : ⊥ = omega arith in never)
+    each_misfit m i zero (b ∷ bs) e h = refused_here fault m i b bs refl (omega arith) (h.here b)
+    each_misfit m i (suc j) (b ∷ bs) e h =
+        let here : Fit k s.points b = h.before 0 b (omega arith) in
+        let low : suc j < length (b ∷ bs) = h.number in
+        inr (
+          inside b here.left here.right,
+          inr (
+            here.read,
+            each_misfit m (i + 1) j bs (omega arith) (record {
+              number = omega arith;
+              before = λ q d l. h.before (suc q) d (omega arith);
+              here = h.here;
+            }),
+          ),
+        )
+
+  -- each bound of the plan's book fits, and what follows decides
+  pub each_bound_fits : (n : ℕ) (a : Answer k) (t : State) → s.points ≡ n → All (Fit k n) (rows s) → next a t → EachBound k s 0 (rows s) next a t
+  each_bound_fits n a t e fit = each_fits a t 0 (rows s) (subst (λ m. All (Fit k m) (rows s)) (sym e) fit)
+
+  -- the first that does not fit is refused
+  pub each_bound_refused : (n : ℕ) (fault : PlanFault) (a : Answer k) (t : State) → s.points ≡ n → RowsChecked k n (rows s) (Err fault)
+      → a ≡ refused fault → t ≡ s → EachBound k s 0 (rows s) next a t
+  each_bound_refused n fault a t e h answer same =
+      let first : RowsChecked k s.points (rows s) (Err fault) = subst (λ m. RowsChecked k m (rows s) (Err fault)) (sym e) h in
+      each_misfit fault a t answer same first.0 0 first.0 (rows s) (omega arith) first.1

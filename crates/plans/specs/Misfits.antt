@@ -1,0 +1,49 @@
+-- The first bound of a book that a plan can't take, and why. Assumes nothing.
+use Rattle.std.specs.Prelude.{◌≡◌, ℕ, ◌<◌, ◌≤◌, ◌⊎◌, List, length, take, Ok, Err, Result, slice_index_or, All}
+use Rattle.bounds.specs.declared.row.Row.{Row}
+use Rattle.delays.specs.Kind.{Kind, Unread}
+use Rattle.delays.specs.declared.fault.KindFault.TheVariants.{Unread as unread}
+use Rattle.plans.specs.declared.fault.PlanFault.{PlanFault}
+use Rattle.plans.specs.declared.fault.PlanFault.TheVariants.{Unsettled, SettledAlready, Points, ListShort, Point, Kind as KindRefuses, Conflict, MarksFull, WrongSlip, Bound, Book}
+use Rattle.plans.specs.Rows.{Fit}
+
+module _ (k : Kind) (n : ℕ) where
+  -- a point of the row is not below n
+  abbrev pub Outside : Row → Type 0
+  Outside r = (n ≤ r.left) ⊎ (n ≤ r.right)
+
+  -- the points of the row are below n, and the kind has no delay with its parts
+  pub record NoDelay (r : Row) : Type 0 where
+    pub left : r.left < n
+    pub right : r.right < n
+    pub unread : Unread k r.t r.s
+
+  -- why the row does not fit, where it has the number i
+  abbrev pub Misfit : ℕ → Row → PlanFault → Type 0
+  Misfit i r (Point place) = (place ≡ i) × Outside r
+  Misfit i r (KindRefuses unread place) = (place ≡ i) × NoDelay r
+  Misfit i r Unsettled = ⊥
+  Misfit i r SettledAlready = ⊥
+  Misfit i r Points = ⊥
+  Misfit i r ListShort = ⊥
+  Misfit i r (Conflict length) = ⊥
+  Misfit i r MarksFull = ⊥
+  Misfit i r WrongSlip = ⊥
+  Misfit i r (Bound e) = ⊥
+  Misfit i r (Book e) = ⊥
+
+  -- the row with the number i fits, or why not
+  abbrev pub RowChecked : ℕ → Row → Result (Unit {0}) PlanFault → Type 0
+  RowChecked i r (Ok _) = Fit k n r
+  RowChecked i r (Err e) = Misfit i r e
+
+  -- the rows before the number i fit, and P holds of the row with that number
+  pub record FitBefore (rows : List Row) (i : ℕ) (P : Row → Type 0) : Type 0 where
+    pub number : i < length rows
+    pub before : All (Fit k n) (take i rows)
+    pub here : (r : Row) → P (slice_index_or rows i r)
+
+  -- every row fits, or why the first that does not fit does not
+  abbrev pub RowsChecked : List Row → Result (Unit {0}) PlanFault → Type 0
+  RowsChecked rows (Ok _) = All (Fit k n) rows
+  RowsChecked rows (Err e) = (i : ℕ) × FitBefore rows i (λ r. Misfit i r e)
