@@ -11,3 +11,4 @@ pub mod Rounds
 pub mod Soundness
 pub mod Plans
 pub mod Misfits
+pub mod Solved

@@ -1,5 +1,5 @@
 -- What a plan is between two calls, what its calls answer, and what becomes of its book and of the caller's list. Assumes nothing.
-use Rattle.std.specs.Prelude.{◌≡◌, ℕ, true, List, [], ◌∷◌, map, Ok, Err, Result}
+use Rattle.std.specs.Prelude.{◌≡◌, ◌≢◌, ℕ, true, List, [], ◌∷◌, map, Ok, Err, Result}
 use Rattle.std.specs.declared.cmp.Ord as ord
 use Rattle.std.specs.declared.cmp.PartialEq as part_eq
 use Rattle.std.specs.declared.cmp.PartialOrd as part_ord
@@ -16,7 +16,8 @@ use Rattle.plans.specs.declared.plan.Plan.{Plan}
 use Rattle.plans.specs.declared.posted.Posted.{Posted}
 use Rattle.plans.specs.declared.posted.Posted.TheVariants.{Covered, Moved}
 use Rattle.plans.specs.declared.slip.Slip.{Slip}
-use Rattle.plans.specs.Answers.{Answer, settled, covered, moved, time, slip, done, refused}
+use Rattle.plans.specs.Steps.{Step}
+use Rattle.plans.specs.Answers.{Call, Answer, settled, covered, moved, time, slip, done, refused}
 use Rattle.plans.specs.Conflicts.{ChainWritten}
 use Rattle.plans.specs.States.{State}
 
@@ -51,6 +52,11 @@ module _ {k : Kind} where
   abbrev pub close_answer : {U : Type 0} → Result U PlanFault → Answer k
   close_answer (Ok u) = done
   close_answer (Err e) = refused e
+
+-- the call is refused with the fault, the plan stays, and the fault is no conflict
+pub record Refused (k : Kind) (s : State) (call : Call) (fault : PlanFault) : Type 0 where
+  pub step : Step k s call (refused fault) s
+  pub no_conflict : (length : ℕ) → fault ≢ Conflict length
 
 -- the caller's list after a call that may find a conflict: it begins with the words of a chain, or it is as it was
 abbrev pub ChainOrSame : {A : Type 0} (k : Kind) → ℕ → (book posted : List Row) → (before after : List ℕ) → Result A PlanFault → Type 0

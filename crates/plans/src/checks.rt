@@ -12,6 +12,7 @@ use crate::question::edges::edge_of;
 use books::Book;
 use bounds::{Bound, Row};
 use delays::{Delay, read_pair};
+use network::time_at;
 
 // Whether the row with the number fits: first its points, then its parts.
 fn check_row<D: Delay>(row: Row, points: usize, place: usize) -> Result<(), PlanFault>
@@ -63,13 +64,6 @@ pub(crate) fn covered<D: Delay, B: Book>(book: &B, bound: Bound) -> bool
         number += 1;
     }
     false
-}
-
-// The time of a point; points past the list are at zero.
-fn time_at<D: Delay>(times: &[D], point: usize) -> D
-    ensures { D.means result ≡ time_of_point D.kind D.means times.now point }
-{
-    times.get(point).copied().unwrap_or(D::zero())
 }
 
 // How many of the points have one time before and another after. Points past a list are at zero.

@@ -4,12 +4,13 @@
 mod checks;
 pub mod fault;
 mod label;
+pub mod law;
 mod mark;
 pub mod plan;
-mod question;
 pub mod posted;
+mod question;
 pub mod slip;
-pub mod law;
+mod solve;
 
 pub use fault::PlanFault;
 pub use plan::Plan;

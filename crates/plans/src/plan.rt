@@ -6,6 +6,7 @@ use books::Book;
 use delays::Delay;
 
 pub mod calls;
+pub mod solving;
 
 // A plan: a book, a number of points whose events its bounds are about, a plan number, and up to eight open marks.
 #[derive(Drop)]

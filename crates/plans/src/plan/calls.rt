@@ -46,7 +46,7 @@ impl<D: Delay, B: Book> Plan<D, B> {
         book
     }
 
-    fn check_settled(&self) -> Result<(), PlanFault>
+    pub(crate) fn check_settled(&self) -> Result<(), PlanFault>
         ensures { MatchResult result (λ u. self.now.settled ≡ true) (λ e. (e ≡ PlanFault.Unsettled) × (self.now.settled ≡ false)) }
     {
         if self.settled {
