@@ -13,6 +13,6 @@ law_of_runs laws s o = record {
   agree = runs_agree laws s;
   conflicts = conflicts_true laws s o;
   reads = reads_least laws s o;
-  backs = backs_restore laws s;
+  backs = backs_restore laws s o;
   books = books_stand s o;
 }

@@ -1,23 +1,17 @@
 -- A run in parts, and the marks that its calls opened. Assumes nothing.
-use Rattle.std.proofs.Common.{◌≡◌, ℕ, ◌+◌, ◌-◌, ◌<◌, ◌≤◌, ◌⊎◌, List, [], ◌∷◌, ◌++◌, length, sym, refl, ap, ◌∙◌, subst, inl, inr, arith, length-append, length-take}
+use Rattle.std.proofs.Common.{◌≡◌, ℕ, ◌+◌, ◌-◌, ◌<◌, ◌≤◌, ◌⊎◌, List, [], ◌∷◌, ◌++◌, length, sym, refl, ap, ◌∙◌, subst, inl, inr, arith}
+use Rattle.std.proofs.lemmas.List.{length-append, length-take}
 use Rattle.std.proofs.lemmas.List.Elements.{All-nil, All-cons, All-head, All-tail}
 use Rattle.std.proofs.lemmas.Bool.{cases_eq}
 use Rattle.delays.specs.Kind.{Kind}
 use Rattle.plans.specs.Answers.{Call, mark, Answer, slip}
 use Rattle.plans.specs.States.{State, depth, marking}
-use Rattle.plans.specs.Runs.{Said, Run, rests, goes, Unmarked}
+use Rattle.plans.specs.Runs.{Said, Run, rests, goes, Unmarked, MarkOf}
 use Rattle.plans.proofs.Changing.{Change, same, settles, posts, marks, keeps, backs, change, opens}
 
 -- the call with its answer opens no mark at depth d
 abbrev pub OpensNone : {k : Kind} → ℕ → Said k → Type 0
 OpensNone d x = (number : ℕ) → x ≡ (mark, slip number d) → ⊥
-
--- the latest mark at depth d among the calls, which gave the slip with this number
-pub record MarkOf {k : Kind} (number d : ℕ) (xs : List (Said k)) : Type 0 where
-  pub before : List (Said k)
-  pub inner : List (Said k)
-  pub split : xs ≡ before ++ ((mark, slip number d) ∷ inner)
-  pub unmarked : Unmarked d inner
 
 module _ {k : Kind} where
   -- a run goes through a plan between two parts

@@ -1,13 +1,13 @@
 -- An accepted back takes back each call from its mark through itself. Assumes nothing.
-use Rattle.std.proofs.Common.{◌≡◌, ℕ, ◌+◌, ◌<◌, ◌≤◌, true, ◌⊎◌, List, [], ◌∷◌, ◌++◌, ◌∙◌, subst, inl, inr, append-nil, arith}
+use Rattle.std.proofs.Common.{ap, length, ◌≡◌, ℕ, ◌+◌, ◌<◌, ◌≤◌, true, ◌⊎◌, List, [], ◌∷◌, ◌++◌, ◌∙◌, subst, inl, inr, append-nil, arith}
 use mathlib.Core.Path.{subst⁻¹}
 use Rattle.delays.specs.Kind.{Kind, Lawful}
-use Rattle.plans.specs.Answers.{mark, back, slip, done}
+use Rattle.plans.specs.Answers.{Call, Answer, mark, back, slip, done}
 use Rattle.plans.specs.States.{State, depth, closing, cutting, noted}
-use Rattle.plans.specs.Runs.{Said, Run, goes, Unmarked, BacksRestore, Left, start, further, taken}
+use Rattle.plans.specs.Runs.{Said, Run, goes, Unmarked, MarkOf, Opened, BacksRestore, Left, start, further, taken}
 use Rattle.plans.proofs.Agreeing.{runs_agree}
 use Rattle.plans.proofs.Changing.{Change, change, opens, shuts}
-use Rattle.plans.proofs.Parting.{MarkOf, split, join, opened_mark}
+use Rattle.plans.proofs.Parting.{split, join, opened_mark}
 use Rattle.plans.proofs.Enclosing.{Inside, inside_first, inside_run, back_restores}
 
 module _ {k : Kind} where
@@ -37,20 +37,23 @@ module _ {k : Kind} where
       resume inner later (change mark (slip number d) v p) h.1 h.2 n
 
   -- an accepted back has its mark among the calls before it
-  pub back_has_mark : {s t : State} (number d : ℕ) (earlier later : List (Said k)) → depth s ≡ 0 → Run k s (earlier ++ ((back number d, done) ∷ later)) t
+  mark_before : {s u v : State} {number d : ℕ} (earlier : List (Said k)) → depth s ≡ 0 → Run k s earlier u → Change k u (back number d) done v
       → MarkOf number d earlier
-  back_has_mark {s} {t} number d earlier later none r = let h = split earlier ((back number d, done) ∷ later) r in go h.0 h.1 h.2
-    where
-      go : (u : State) → Run k s earlier u → Run k u ((back number d, done) ∷ later) t → MarkOf number d earlier
-      go u r (goes {t = v} q _) = let c = shuts (change (back number d) done v q) in
-          subst⁻¹ (λ (j : ℕ). MarkOf j d earlier) c.number_is (opened_mark d earlier none r c.is_open c.open_there)
+  mark_before {d = d} earlier none r q =
+      let c = shuts q in subst⁻¹ (λ (j : ℕ). MarkOf j d earlier) c.number_is (opened_mark d earlier none r c.is_open c.open_there)
+
+  -- the change that the first call of a run makes
+  first_step : {s t : State} {c : Call} {a : Answer k} {xs : List (Said k)} → Run k s ((c, a) ∷ xs) t → (v : State) × Change k s c a v
+  first_step (goes {t = v} {c = c} {a = a} p _) = (v, change c a v p)
 
   -- the run without the calls, and by it the answers
-  pub backs_restore : Lawful k → (s : State) → BacksRestore k s
-  backs_restore laws s t number d before inner later r n =
-      let h = split before _ r in
-      let short : Run k s (before ++ later) t = join h.1 (unwind number d inner later h.2 n) in
-      (short, λ u ys q e. runs_agree laws s u t ys (before ++ later) q short e)
+  pub backs_restore : Lawful k → (s : State) → Opened s → BacksRestore k s
+  backs_restore laws s o t number d earlier later r =
+      let h = split earlier ((back number d, done) ∷ later) r in
+      let m = mark_before earlier (ap length o.unmarked) h.1 (first_step h.2).1 in
+      let parts = split m.before ((mark, slip number d) ∷ m.inner) (subst (λ (z : List (Said k)). Run k s z h.0) m.split h.1) in
+      let short : Run k s (m.before ++ later) t = join parts.1 (unwind number d m.inner later (join parts.2 h.2) m.unmarked) in
+      (m, short, λ u ys q e. runs_agree laws s u t ys (m.before ++ later) q short e)
 
   -- what is left of a run is a run to the same plan
   pub left_run : {s : State} {xs ys : List (Said k)} → Left xs ys → (t : State) → Run k s xs t → Run k s ys t

@@ -80,14 +80,20 @@ ReadsLeast k s = (t : State) (xs : List (Said k)) → Run k s xs t → t.settled
 abbrev pub Unmarked : {k : Kind} → ℕ → List (Said k) → Type 0
 Unmarked d xs = All (λ x. (number : ℕ) → x ≡ (mark, slip number d) → ⊥) xs
 
--- An accepted back takes back each call from the latest mark at its depth through itself: the run without them leads to the same plan, and
--- whichever answers the calls that are left may have, they are the same, chains aside.
+-- the latest mark at depth d among the calls, which gave the slip with this number
+pub record MarkOf {k : Kind} (number d : ℕ) (calls : List (Said k)) : Type 0 where
+  pub before : List (Said k)
+  pub inner : List (Said k)
+  pub split : calls ≡ before ++ ((mark, slip number d) ∷ inner)
+  pub unmarked : Unmarked d inner
+
+-- An accepted back takes back each call from its mark, the latest at its depth, through itself: the run without them leads to the same plan,
+-- and whichever answers the calls that are left may have, they are the same, chains aside.
 abbrev pub BacksRestore : Kind → State → Type 0
-BacksRestore k s = (t : State) (number d : ℕ) (before inner later : List (Said k))
-    → Run k s (before ++ ((mark, slip number d) ∷ (inner ++ ((back number d, done) ∷ later)))) t → Unmarked d inner
-    → Run k s (before ++ later) t
-    × ((u : State) (ys : List (Said k)) → Run k s ys u → map call_of ys ≡ map call_of (before ++ later)
-    → (map answer_of ys ≡ map answer_of (before ++ later)) × (u ≡ t))
+BacksRestore k s = (t : State) (number d : ℕ) (earlier later : List (Said k)) → Run k s (earlier ++ ((back number d, done) ∷ later)) t
+    → (m : MarkOf number d earlier) × Run k s (m.before ++ later) t
+    × ((u : State) (ys : List (Said k)) → Run k s ys u → map call_of ys ≡ map call_of (m.before ++ later)
+    → (map answer_of ys ≡ map answer_of (m.before ++ later)) × (u ≡ t))
 
 -- what is left of the calls: an accepted back takes back each from its mark through itself
 pub data Left {k : Kind} : List (Said k) → List (Said k) → Type 0 where
