@@ -87,12 +87,12 @@ def main():
         lines = [f"{n}:{i}: {l.strip()}" for n, t in files for i, l in enumerate(t.split("\n"), 1) if re.search(pattern, l)]
         print(f"point {point}: {len(lines)}", *lines, sep="\n    ")
     every = [(n, *f) for n, t in files for f in functions(t)]
-    plain = [f for f in every if "edge_tests" not in f[0]]
+    plain = [f for f in every if "_tests/" not in f[0]]
     pairs = []
     for a, b in itertools.combinations(every, 2):
         p, q = tokens(a[4]), tokens(b[4])
         if min(len(p), len(q)) >= TOKENS and difflib.SequenceMatcher(None, p, q, autojunk=False).ratio() >= ALIKE:
-            if ("edge_tests" in a[0]) == ("edge_tests" in b[0]):
+            if ("_tests/" in a[0]) == ("_tests/" in b[0]):
                 pairs.append(f"{a[0][7:]} {a[1]} ~ {b[0][7:]} {b[1]}")
     print(f"point 2: {len(pairs)} pairs of bodies alike", *pairs, sep="\n    ")
     side = {}

@@ -1,0 +1,75 @@
+// What a plan's refusals tell: number, layer and place, and words.
+use crate::setups::{TickPlan, post, settled, unread};
+use books::BookFault;
+use bounds::BoundFault;
+use delays::{Ticks, read_pair};
+use faults::{Fault, Layer};
+use plans::PlanFault;
+use std::test::Fail;
+
+#[test]
+fn faults_of_plans(rt: HostRuntime) {
+    let table = [
+        (PlanFault::Unsettled, 1, Layer::Plans, 0),
+        (PlanFault::SettledAlready, 2, Layer::Plans, 0),
+        (PlanFault::Points, 3, Layer::Plans, 0),
+        (PlanFault::ListShort, 4, Layer::Plans, 0),
+        (PlanFault::Point { place: 2 }, 5, Layer::Plans, 2),
+        (PlanFault::Point { place: 65_534 }, 5, Layer::Plans, 65_534),
+        (unread(0), 6, Layer::Kinds, 0),
+        (unread(65_534), 6, Layer::Kinds, 65_534),
+        (PlanFault::Bound(BoundFault::LeftPoint), 7, Layer::Bounds, 1),
+        (PlanFault::Bound(BoundFault::PartS), 7, Layer::Bounds, 4),
+        (PlanFault::Conflict { length: 128 }, 8, Layer::Plans, 128),
+        (PlanFault::Book(BookFault::Full), 9, Layer::Books, 0),
+        (PlanFault::MarksFull, 10, Layer::Plans, 0),
+        (PlanFault::WrongSlip, 11, Layer::Plans, 0),
+    ];
+    for (fault, number, layer, place) in table {
+        let told = Fault {
+            number,
+            layer,
+            place,
+        };
+        assert_eq!(rt; Fault::from(fault), told);
+    }
+}
+
+fn read_of_ticks(t: i64, s: i64) -> Result<Ticks, PlanFault> {
+    Ok(read_pair(t, s)?)
+}
+
+fn full_book() -> Result<(), PlanFault> {
+    let full: Result<(), BookFault> = Err(BookFault::Full);
+    Ok(full?)
+}
+
+// The post makes its bound first.
+#[test]
+fn faults_of_layers_below(rt: HostRuntime) -> Result<(), Fail> {
+    let mut plan: TickPlan = settled(2, &[])?;
+    assert_eq!(rt;
+        post(&mut plan, [0, 4096, 0, 0]),
+        Err(PlanFault::Bound(BoundFault::RightPoint))
+    );
+    assert_eq!(rt; read_of_ticks(0, 1), Err(unread(0)));
+    assert_eq!(rt; full_book(), Err(PlanFault::Book(BookFault::Full)));
+    Ok(())
+}
+
+#[test]
+fn faults_in_words(rt: HostRuntime) -> Result<(), Fail> {
+    let told = format!(in rt.alloc();
+        "{} / {} / {} / {} / {}",
+        PlanFault::Unsettled,
+        PlanFault::Point { place: 2 },
+        unread(17),
+        PlanFault::Conflict { length: 3 },
+        PlanFault::Book(BookFault::Full)
+    )?;
+    assert_eq!(rt;
+        told.as_str(),
+        "the plan is not settled / a point is not below the number of points (place 2) / no delay of the kind has these parts (place 17) / the bounds in force hold a chain of 3 / the book has no free place"
+    );
+    Ok(())
+}

@@ -1,0 +1,151 @@
+// Settling over books that can be met, and over books that can't.
+use crate::setups::{Numbers, bound, settle, table, time};
+use books::Table;
+use delays::{Delay, Ranked, Ticks, read_pair};
+use faults::Fault;
+use network::{Edge, Link, edge_of, floor, is_chain};
+use plans::{Plan, PlanFault};
+use std::alloc::Global;
+use std::process::Abort;
+use std::test::Fail;
+
+// How many times are not zero, and the time of point 2.
+#[test]
+fn settled_times(rt: HostRuntime) -> Result<(), Fail> {
+    let books: [([Numbers; 3], usize, (i64, i64)); 5] = [
+        ([[0, 0, 0, 0], [1, 2, 0, 0], [2, 1, 0, 0]], 0, (0, 0)),
+        ([[1, 0, 5, 0], [0, 1, -5, 0], [2, 0, 0, 0]], 1, (0, 0)),
+        ([[1, 2, -1, 0], [0, 1, -1, 0], [2, 0, 2, 0]], 2, (2, 0)),
+        ([[0, 2, -1, 0], [1, 2, -1, 0], [0, 1, -4, 0]], 2, (5, 0)),
+        (
+            [
+                [0, 1, -500_000_000, 0],
+                [1, 2, -500_000_000, 0],
+                [2, 1, 500_000_000, 0],
+            ],
+            2,
+            (1_000_000_000, 0),
+        ),
+    ];
+    for (bounds, count, last) in books {
+        let mut plan: Plan<Ticks, Table> = Plan::open(table(&bounds)?, 3, 7);
+        assert_eq!(rt; settle(&mut plan), Ok(count));
+        assert_eq!(rt; time(&plan, 2), Ok(last));
+    }
+    Ok(())
+}
+
+// A step is more than none, and less than any millisecond.
+#[test]
+fn settled_ranked_times(rt: HostRuntime) -> Result<(), Fail> {
+    let bounds = [
+        [0, 1, 0, -1],
+        [1, 2, 0, -1],
+        [2, 0, 1, -500_000_000],
+        [0, 3, -1, 2],
+    ];
+    let mut plan: Plan<Ranked, Table> = Plan::open(table(&bounds)?, 5, 7);
+    assert_eq!(rt; settle(&mut plan), Ok(3));
+    for (point, parts) in [
+        (0, (0, 0)),
+        (1, (0, 1)),
+        (2, (0, 2)),
+        (3, (1, -2)),
+        (4, (0, 0)),
+    ] {
+        assert_eq!(rt; time(&plan, point), Ok(parts));
+    }
+    Ok(())
+}
+
+fn edge<D: Delay>(numbers: Numbers) -> Result<Edge<D>, Fail> {
+    let row = bound(numbers)?.row();
+    Ok(Edge {
+        left: usize::from(row.left),
+        right: usize::from(row.right),
+        delay: read_pair(i64::from(row.t), i64::from(row.s))?,
+    })
+}
+
+// The bounds and floors that the words name. None is a posted one.
+fn named<D: Delay>(heap: Global, bounds: &[Numbers], words: &[u32]) -> Result<Vec<Edge<D>>, Fail> {
+    let mut book = Vec::new(heap);
+    for numbers in bounds {
+        book.push(edge(*numbers)?)?;
+    }
+    let mut row = Vec::new(heap);
+    for word in words {
+        let link = Link::try_from(*word)?;
+        row.push(edge_of(link, book.as_slice(), floor(0)).ok_or(*word)?)?;
+    }
+    Ok(row)
+}
+
+// The length of the chain, which is the place of the fault.
+fn chain_length(answer: Result<usize, PlanFault>) -> Option<usize> {
+    let fault = answer.err()?;
+    let PlanFault::Conflict { length } = fault else {
+        return None;
+    };
+    (Fault::from(fault).place == length as u64).then_some(length)
+}
+
+// A plan over a book that can't be met: the list begins with the words of a chain, the rest of it is as it was, and so is the plan.
+fn check_conflict<D: Delay>(
+    rt: &impl Abort,
+    heap: Global,
+    points: usize,
+    bounds: &[Numbers],
+) -> Result<(), Fail> {
+    let mut plan: Plan<D, Table> = Plan::open(table(bounds)?, points, 7);
+    let mut list = [7; 130];
+    let length = chain_length(plan.settle(&mut list)).ok_or(points)?;
+    assert!(rt; length <= points && points <= 128);
+    let (words, rest) = list.split_at(length);
+    assert!(rt; words.iter().all(|word| *word != 0xC000_0000));
+    let row: Vec<Edge<D>> = named(heap, bounds, words)?;
+    assert_eq!(rt; is_chain(row.as_slice()), Some(true));
+    assert!(rt; rest.iter().all(|word| *word == 7));
+    assert_eq!(rt; time(&plan, 0), Err(PlanFault::Unsettled));
+    Ok(())
+}
+
+#[test]
+fn books_that_conflict(rt: HostRuntime) -> Result<(), Fail> {
+    let books: [(usize, [Numbers; 3]); 7] = [
+        (1, [[0, 0, 0, 0], [0, 0, -1, 0], [0, 0, 0, 0]]),
+        (2, [[1, 0, 5, 0], [0, 1, -6, 0], [0, 0, 0, 0]]),
+        (2, [[0, 1, 5, 0], [0, 0, 0, 0], [1, 0, -5, 0]]),
+        (3, [[2, 2, 1, 0], [2, 2, -1, 0], [0, 0, 0, 0]]),
+        (4, [[0, 1, -1, 0], [2, 0, 1, 0], [1, 2, -1, 0]]),
+        (4, [[1, 2, -1, 0], [2, 1, 0, 0], [3, 0, 0, 0]]),
+        (
+            128,
+            [
+                [126, 127, -500_000_000, 0],
+                [127, 126, 499_999_999, 0],
+                [0, 126, -1, 0],
+            ],
+        ),
+    ];
+    for (points, bounds) in books {
+        check_conflict::<Ticks>(&rt, rt.alloc(), points, &bounds)?;
+    }
+    check_conflict::<Ranked>(
+        &rt,
+        rt.alloc(),
+        2,
+        &[[1, 0, 0, 500_000_000], [0, 1, -1, 500_000_000]],
+    )
+}
+
+// All points on one ring, and all bounds with the greatest delay.
+#[test]
+fn the_longest_ring(rt: HostRuntime) -> Result<(), Fail> {
+    let mut bounds = Vec::new(rt.alloc());
+    for n in 0..127 {
+        bounds.push([n, n + 1, -500_000_000, 0])?;
+    }
+    bounds.push([127, 0, -500_000_000, 0])?;
+    check_conflict::<Ticks>(&rt, rt.alloc(), 128, bounds.as_slice())
+}
