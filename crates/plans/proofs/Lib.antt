@@ -1,5 +1,6 @@
 pub mod Least
 pub mod Sounds
+pub mod Checked
 pub mod Agreeing
 pub mod Changing
 pub mod SoundPlans
