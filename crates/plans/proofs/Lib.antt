@@ -1,1 +1,4 @@
 pub mod Numbering
+pub mod Wording
+pub mod Trailing
+pub mod Heading

@@ -8,3 +8,4 @@ pub mod Conflicts
 pub mod Questions
 pub mod Labels
 pub mod Rounds
+pub mod Trails

@@ -4,5 +4,6 @@
 pub mod fault;
 mod label;
 mod question;
+mod trace;
 
 pub use fault::PlanFault;

@@ -1,5 +1,5 @@
 // The bounds in question by number.
-ghost use Rattle.std.specs.Prelude.{◌≡◌, ◌+◌, ◌<◌, ◌≤◌, length, map, All};
+ghost use Rattle.std.specs.Prelude.{◌≡◌, ◌+◌, ◌<◌, ◌≤◌, ◌⊎◌, [], length, map, All};
 ghost use Rattle.std.specs.List.{slice_get};
 ghost use Rattle.delays.specs.Kind.{Kind, Unread};
 ghost use Rattle.network.specs.Edges.{bound_of};
@@ -68,7 +68,8 @@ impl<'a, B: Book> Question<'a, B> {
     pub(crate) fn link(&self, number: usize) -> Link
         requires few { self.now.points ≤ 128 }
         requires number { number < length (question_rows B.meaning self.now) + self.now.points }
-        ensures { (k : Kind) → NamesOf k (map (exact_of k) (book_rows B.meaning self.now)) (map (exact_of k) (posted_rows self.now.posted)) result (numbered (in_question B.meaning k self.now) number) }
+        ensures names { (k : Kind) → NamesOf k (map (exact_of k) (book_rows B.meaning self.now)) (map (exact_of k) (posted_rows self.now.posted)) result (numbered (in_question B.meaning k self.now) number) }
+        ensures posted { number ≡ length (book_rows B.meaning self.now) → (posted_rows self.now.posted ≡ []) ⊎ (result ≡ Link.Posted) }
     {
         let book = self.book.count();
         let rows = self.rows();
