@@ -6,9 +6,9 @@ use Rattle.std.specs.Option.{IsSome}
 use Rattle.std.proofs.lemmas.Bool.{cases_eq, cases_lt}
 use Rattle.std.proofs.lemmas.List.{length-take-le, get_or-take}
 use Rattle.std.proofs.lemmas.List.Edits.{length-between}
-use Rattle.std.proofs.lemmas.List.Elements.{Contains-get_or}
+use Rattle.std.proofs.lemmas.List.Elements.{All-get_or, Contains-get_or}
 use Rattle.delays.specs.Kind.{Kind, Exact, Lawful}
-use Rattle.network.specs.Bounds.{ExactBound, Bounds, floor_of}
+use Rattle.network.specs.Bounds.{ExactBound, Bounds, floor_of, Inside}
 use Rattle.network.specs.Assignments.{Le, Lt}
 use Rattle.network.specs.Chains.{ChainIn}
 use Rattle.network.specs.Rounds.{Repeated, stretch}
@@ -30,6 +30,7 @@ part_counting xs i (suc m) h =
 -- the trail is followed down to a round, in which it is at `here`
 pub record Followed (k : Kind) (edges : Bounds k) (n : ℕ) (via : List (List ℕ)) (start round here : ℕ) (points numbers : List ℕ) : Type 0 where
   pub upto : round ≤ n
+  pub inside : here < n
   pub top : get_or points n 0 ≡ start
   pub at : get_or points round 0 ≡ here
   pub notes : (j : ℕ) → round ≤ j → j < n → get_or numbers j 0 ≡ noted_via via j (get_or points (j + 1) 0)
@@ -44,7 +45,7 @@ module _ {k : Kind} (laws : Lawful k) {edges : Bounds k} {n : ℕ} {begun : ℕ 
       laws.transitive (s.times i p) (s.times (i + 1) p) (s.times j p) (s.rise i p (omega arith) l) (rises_by (i + 1) d j (omega arith) h p l)
 
 module _ {k : Kind} {edges : Bounds k} {n : ℕ} {via : List (List ℕ)} {start : ℕ} (b : Behind k edges n via start)
-    (small : (i : ℕ) → i < length edges → (numbered edges i).left < n)
+    (inside : All (Inside k n) edges)
     {round here : ℕ} {points numbers : List ℕ} (f : Followed k edges n via start round here points numbers) where
   abbrev point : ℕ → ℕ
   point j = get_or points j 0
@@ -62,7 +63,7 @@ module _ {k : Kind} {edges : Bounds k} {n : ℕ} {via : List (List ℕ)} {start 
   stops zero j e l = let same : j ≡ n = omega arith in rw (same, f.top) (b.inside, b.story.wait start b.inside b.still)
   stops (suc d) j e l =
       let c = came_down j l (omega arith) (stops d (j + 1) (omega arith) (omega arith)) in
-      rw (← f.lefts j l (omega arith)) (small (number j) c.number, c.left)
+      rw (← f.lefts j l (omega arith)) ((All-get_or (Inside k n) edges (number j) (floor_of k 0) c.number inside).left, c.left)
 
   -- the trail stands at points below n, whose times are new
   pub stop : (j : ℕ) → round ≤ j → j ≤ n → Stop j
@@ -70,9 +71,6 @@ module _ {k : Kind} {edges : Bounds k} {n : ℕ} {via : List (List ℕ)} {start 
 
   pub came_at : (j : ℕ) → round ≤ j → j < n → Came k edges b.begun b.story.times j (point (j + 1)) (number j)
   came_at j l h = came_down j l h (stop (j + 1) (omega arith) (omega arith))
-
-  pub here_below : here < n
-  here_below = rw f.at at ((stop round (omega arith) f.upto).0)
 
   -- the bound over which the point of the trail got its time has a number
   pub noted_below : (r : ℕ) → r + 1 ≡ round → noted_via via r here < length edges
@@ -82,54 +80,59 @@ module _ {k : Kind} {edges : Bounds k} {n : ℕ} {via : List (List ℕ)} {start 
       rw e (t.1.later r (sym e)) in
       rw f.at at ((b.story.came r (point round) (omega (arith, f.upto)) t.0 up).number)
 
--- one round further back
-pub follow_more : (k : Kind) (edges : Bounds k) (n : ℕ) (via : List (List ℕ)) (start round here r : ℕ) (b : ExactBound k) (points numbers : List ℕ) → r + 1 ≡ round
-    → round < length points → r < length numbers → b ≡ numbered edges (noted_via via r here) → Followed k edges n via start round here points numbers
-    → Followed k edges n via start r b.left (set points r b.left) (set numbers r (noted_via via r here))
-follow_more k edges n via start round here r b points numbers e long room is f = record {
-  upto = omega (arith, f.upto);
-  top = get_or-set_other points r n b.left 0 (λ z. omega (arith, f.upto)) ∙ f.top;
-  at = get_or-set_same points r b.left 0 inside;
-  notes = λ j l h. notes j l h (cases_eq j r);
-  lefts = λ j l h. lefts j l h (cases_eq j r);
-}
-  where
-    inside : r < length points
-    inside = omega arith
+  -- one round further back
+  pub follow_more : (r : ℕ) (a : ExactBound k) → r + 1 ≡ round → round < length points → r < length numbers → a ≡ numbered edges (noted_via via r here)
+      → Followed k edges n via start r a.left (set points r a.left) (set numbers r (noted_via via r here))
+  follow_more r a e long room is = record {
+    upto = omega (arith, f.upto);
+    inside = rw is ((All-get_or (Inside k n) edges (noted_via via r here) (floor_of k 0) (noted_below r e) inside).left);
+    top = get_or-set_other points r n a.left 0 (λ z. omega (arith, f.upto)) ∙ f.top;
+    at = get_or-set_same points r a.left 0 (omega arith);
+    notes = λ j l h. notes j l h (cases_eq j r);
+    lefts = λ j l h. lefts j l h (cases_eq j r);
+  }
+    where
+      low : r < length points
+      low = omega arith
 
-    notes : (j : ℕ) → r ≤ j → j < n → (j ≡ r) ⊎ (j ≡ r → ⊥) → get_or (set numbers r (noted_via via r here)) j 0 ≡ noted_via via j (get_or (set points r b.left) (j + 1) 0)
-    notes j l h (inl d) =
-        let point : get_or (set points r b.left) (j + 1) 0 ≡ here = get_or-set_other points r (j + 1) b.left 0 (λ z. omega arith) ∙ (ap (λ i. get_or points i 0) (ap (λ i. i + 1) d ∙ e) ∙ f.at) in
-        rw (point, d) (get_or-set_same numbers r (noted_via via r here) 0 room)
-    notes j l h (inr d) =
-        rw (get_or-set_other numbers r j (noted_via via r here) 0 d, get_or-set_other points r (j + 1) b.left 0 (λ z. omega arith)) (f.notes j (omega arith) h)
+      above : (j : ℕ) → r ≤ j → get_or (set points r a.left) (j + 1) 0 ≡ get_or points (j + 1) 0
+      above j l = get_or-set_other points r (j + 1) a.left 0 (λ z. omega arith)
 
-    lefts : (j : ℕ) → r ≤ j → j < n → (j ≡ r) ⊎ (j ≡ r → ⊥) → (numbered edges (get_or (set numbers r (noted_via via r here)) j 0)).left ≡ get_or (set points r b.left) j 0
-    lefts j l h (inl d) =
-        rw (d, get_or-set_same numbers r (noted_via via r here) 0 room, get_or-set_same points r b.left 0 inside) (ap (λ a. a.left) (sym is))
-    lefts j l h (inr d) = rw (get_or-set_other numbers r j (noted_via via r here) 0 d, get_or-set_other points r j b.left 0 d) (f.lefts j (omega arith) h)
+      notes : (j : ℕ) → r ≤ j → j < n → (j ≡ r) ⊎ (j ≡ r → ⊥)
+          → get_or (set numbers r (noted_via via r here)) j 0 ≡ noted_via via j (get_or (set points r a.left) (j + 1) 0)
+      notes j l h (inl d) =
+          let stands : get_or (set points r a.left) (j + 1) 0 ≡ here = above j l ∙ (ap (λ i. get_or points i 0) (ap (λ i. i + 1) d ∙ e) ∙ f.at) in
+          rw (stands, d) (get_or-set_same numbers r (noted_via via r here) 0 room)
+      notes j l h (inr d) = rw (get_or-set_other numbers r j (noted_via via r here) 0 d, above j l) (f.notes j (omega arith) h)
+
+      lefts : (j : ℕ) → r ≤ j → j < n → (j ≡ r) ⊎ (j ≡ r → ⊥)
+          → (numbered edges (get_or (set numbers r (noted_via via r here)) j 0)).left ≡ get_or (set points r a.left) j 0
+      lefts j l h (inl d) =
+          rw (d, get_or-set_same numbers r (noted_via via r here) 0 room, get_or-set_same points r a.left 0 low) (ap (λ x. x.left) (sym is))
+      lefts j l h (inr d) =
+          rw (get_or-set_other numbers r j (noted_via via r here) 0 d, get_or-set_other points r j a.left 0 d) (f.lefts j (omega arith) h)
 
 module _ {k : Kind} (laws : Lawful k) {edges : Bounds k} {n : ℕ} where
   -- followed down to round 0
   pub trailed : {via : List (List ℕ)} {start here : ℕ} {points numbers : List ℕ} → (b : Behind k edges n via start)
-      → ((i : ℕ) → i < length edges → (numbered edges i).left < n) → Followed k edges n via start 0 here points numbers → Trail k edges n points numbers
-  trailed {via} {start} {here} {points} {numbers} b small f = record {
+      → All (Inside k n) edges → Followed k edges n via start 0 here points numbers → Trail k edges n points numbers
+  trailed {via} {start} {here} {points} {numbers} b inside f = record {
     label = λ j. b.story.times j (get_or points j 0);
     traced = record {
-      inside = λ i h. (stop b small f i (omega arith) h).0;
-      held = λ i h. Contains-get_or edges (get_or numbers i 0) (floor_of k 0) (came_at b small f i (omega arith) h).number;
+      inside = λ i h. (stop b inside f i (omega arith) h).0;
+      held = λ i h. Contains-get_or edges (get_or numbers i 0) (floor_of k 0) (came_at b inside f i (omega arith) h).number;
       leaves = λ i h. f.lefts i (omega arith) h;
-      reaches = λ i h. (came_at b small f i (omega arith) h).right;
-      carried = λ i h. rw (← f.lefts i (omega arith) h) (came_at b small f i (omega arith) h).value;
+      reaches = λ i h. (came_at b inside f i (omega arith) h).right;
+      carried = λ i h. rw (← f.lefts i (omega arith) h) (came_at b inside f i (omega arith) h).value;
       rises = λ i j l h e.
           let j' = j - 1 in
           let last : j ≡ j' + 1 = omega arith in
           let p = get_or points j 0 in
-          let t = stop b small f j (omega arith) h in
+          let t = stop b inside f j (omega arith) h in
           let up : Lt k (b.story.times j' p) (b.story.times j p) = t.1.later j' last in
           rw e (le_lt_trans laws (b.story.times i p) (b.story.times j' p) (b.story.times j p) (rises_by laws b.story i (j' - i) j' (omega arith) (omega arith) p t.0) up);
     };
-    below = λ i h. (came_at b small f i (omega arith) h).number;
+    below = λ i h. (came_at b inside f i (omega arith) h).number;
   }
 
   module _ {points numbers : List ℕ} (t : Trail k edges n points numbers) (long : n < length points) where

@@ -17,24 +17,6 @@ use Rattle.plans.specs.Questions.{numbered}
 use Rattle.plans.specs.Conflicts.{NamesOf}
 use Rattle.plans.specs.Trails.{WordFor, WordsWritten}
 
-module _ (k : Kind) (n : ℕ) where
-  -- both points of a bound in force are below n
-  pub fit_inside : (rows : List Row) → 0 < n → All (Fit k n) rows → All (Inside k n) (force k n rows)
-  fit_inside rows some fit =
-      force_inside k n (map (exact_of k) rows) some
-      (All-map (Inside k n) (exact_of k) rows (All-weaker (Fit k n) (λ r. Inside k n (exact_of k r)) (λ r f. record { left = f.left; right = f.right }) rows fit))
-
-  pub numbered_inside : (rows : List Row) → 0 < n → All (Fit k n) rows → (i : ℕ) → i < length (force k n rows) → Inside k n (numbered (force k n rows) i)
-  numbered_inside rows some fit i h = All-get_or (Inside k n) (force k n rows) i (floor_of k 0) h (fit_inside rows some fit)
-
-  -- the link of a bound in force has room for its number
-  pub link_room : (book posted : List Row) (l : Link) (b : ExactBound k) → n ≤ 128 → length book ≤ 65535 → Inside k n b
-      → NamesOf k (map (exact_of k) book) (map (exact_of k) posted) l b → low_bits l < 2 ^ 30
-  link_room book posted (Book number) b few short inside names = omega (arith, names.0, length-map book (exact_of k))
-  link_room book posted (Floor point) b few short inside names =
-      let same : b.right ≡ point = ap (λ c. c.right) names in omega (arith, inside.right)
-  link_room book posted Posted b few short inside names = omega arith
-
 -- lists that are the same from a place on are so from the next on
 drop_on : (xs ys : List ℕ) (c : ℕ) → drop c xs ≡ drop c ys → drop (c + 1) xs ≡ drop (c + 1) ys
 drop_on xs ys c e = sym (drop-drop 1 c xs) ∙ (ap (drop 1) e ∙ drop-drop 1 c ys)

@@ -1,5 +1,6 @@
 // The chain behind a point that waits after the last round, as words on the caller's list.
 ghost use Rattle.std.specs.Prelude.{◌≡◌, ℕ, ◌+◌, ◌<◌, ◌≤◌, ◌⊎◌, [], length, All, slice_range};
+ghost use Rattle.delays.specs.Kind.{Kind};
 ghost use Rattle.plans.specs.Rows.{Fit, Solvable};
 ghost use Rattle.plans.specs.Conflicts.{ChainWritten};
 ghost use Rattle.plans.specs.Questions.{book_rows, posted_rows, question_rows, in_question};
@@ -31,27 +32,23 @@ fn begin_with(row: &mut [usize], number: usize)
 }
 
 // The word of the bound in force with the number.
-fn word<D: Delay, B: Book>(question: &Question<'_, B>, number: usize) -> u32
-    requires some { 0 < question.now.points }
+fn word<B: Book>(question: &Question<'_, B>, number: usize) -> u32
     requires few { question.now.points ≤ 128 }
-    requires fit { All (Fit D.kind question.now.points) (question_rows B.meaning question.now) }
     requires number { number < length (question_rows B.meaning question.now) + question.now.points }
-    ensures { WordFor D.kind question.now.points (book_rows B.meaning question.now) (posted_rows question.now.posted) number result }
+    ensures { (k : Kind) → WordFor k question.now.points (book_rows B.meaning question.now) (posted_rows question.now.posted) number result }
 {
     u32::try_from(question.link(number)).unwrap()
 }
 
 // Writes the words of the bounds with these numbers at the start of the list.
-fn write_words<D: Delay, B: Book>(question: &Question<'_, B>, numbers: &[usize], list: &mut [u32])
-    requires some { 0 < question.now.points }
+fn write_words<B: Book>(question: &Question<'_, B>, numbers: &[usize], list: &mut [u32])
     requires few { question.now.points ≤ 128 }
-    requires fit { All (Fit D.kind question.now.points) (question_rows B.meaning question.now) }
-    requires numbers { All (λ v. v < length (in_question B.meaning D.kind question.now)) numbers.now }
+    requires numbers { All (λ v. v < length (question_rows B.meaning question.now) + question.now.points) numbers.now }
     requires list { length numbers.now ≤ length list.old }
-    ensures { WordsWritten D.kind question.now.points (book_rows B.meaning question.now) (posted_rows question.now.posted) numbers.now (length numbers.now) list.old list.new }
+    ensures { (k : Kind) → WordsWritten k question.now.points (book_rows B.meaning question.now) (posted_rows question.now.posted) numbers.now (length numbers.now) list.old list.new }
 {
     for (place, number) in numbers.iter().enumerate() {
-        list[place] = word::<D, B>(question, *number);
+        list[place] = word(question, *number);
     }
 }
 
@@ -125,6 +122,6 @@ pub(crate) fn write_chain<D: Delay, B: Book>(
     let (from, to) = chain_behind::<D, B>(question, via, start, &mut numbers);
     let chain = &mut numbers[from..to];
     begin_with(chain, question.book.count());
-    write_words::<D, B>(question, chain, list);
+    write_words(question, chain, list);
     to - from
 }

@@ -1,8 +1,9 @@
 use Rattle.std.proofs.Common.{◌-◌, ◌≤◌, length, arith}
 use Rattle.std.proofs.lemmas.List.Edits.{length-between}
 use Rattle.std.specs.List.{slice_range}
-use Rattle.plans.specs.Questions.{book_rows, in_question}
+use Rattle.plans.specs.Questions.{book_rows, question_rows, in_question}
 use Rattle.plans.specs.Trails.{TurnedTo}
+use Rattle.plans.proofs.Numbering.{edges_length}
 use Rattle.plans.proofs.Heading.{chain_turned, chain_written}
 use Rattle.plans.proofs.trace.write_chain.Goals as goal
 
@@ -10,9 +11,11 @@ pub write_words-requires-clause-numbers : goal.write_words-requires-clause-numbe
 write_words-requires-clause-numbers g c =
     let k = g.D.Delay.kind in
     let q = c.args.question.now in
-    (chain_turned g.met.D.Delay.lawful (in_question g.B.Book.meaning k q) q.points c.count.result
-    (slice_range c.chain_behind-from.new.numbers c.chain_behind-from.result.0 c.chain_behind-from.result.1) c.begin_with.new.row c.begin_with.ensures
-    c.chain_behind-from.ensures.chain).below
+    let chain =
+        chain_turned g.met.D.Delay.lawful (in_question g.B.Book.meaning k q) q.points c.count.result
+        (slice_range c.chain_behind-from.new.numbers c.chain_behind-from.result.0 c.chain_behind-from.result.1) c.begin_with.new.row c.begin_with.ensures
+        c.chain_behind-from.ensures.chain in
+    rw (edges_length k q.points (question_rows g.B.Book.meaning q)) at chain.below
 
 pub returns : goal.returns
 returns g c =
@@ -24,4 +27,4 @@ returns g c =
     let found = slice_range c.chain_behind-from.new.numbers c.chain_behind-from.result.0 c.chain_behind-from.result.1 in
     let turned : TurnedTo (length (book_rows g.B.Book.meaning q)) found c.begin_with.new.row = rw c.count.ensures at c.begin_with.ensures in
     chain_written g.met.D.Delay.lawful q.points (book_rows g.B.Book.meaning q) q.posted found c.begin_with.new.row c.args.list.now c.write_words.new.list
-    (c.chain_behind-from.result.1 - c.chain_behind-from.result.0) c.requires.solvable c.chain_behind-from.ensures.chain turned c.write_words.ensures (omega (arith, long, c.begin_with.auto.row))
+    (c.chain_behind-from.result.1 - c.chain_behind-from.result.0) c.requires.solvable c.chain_behind-from.ensures.chain turned (c.write_words.ensures k) (omega (arith, long, c.begin_with.auto.row))
