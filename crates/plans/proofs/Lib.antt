@@ -1,1 +1,3 @@
 pub mod Numbering
+pub mod Smallness
+pub mod Rounding

@@ -4,5 +4,6 @@
 pub mod fault;
 mod label;
 mod question;
+mod round;
 
 pub use fault::PlanFault;
