@@ -1,5 +1,6 @@
 pub mod Numbering
+pub mod Smallness
+pub mod Rounding
 pub mod Wording
 pub mod Trailing
 pub mod Heading
-pub mod Insides

@@ -81,13 +81,13 @@ module _ {k : Kind} {edges : Bounds k} {n : ℕ} {via : List (List ℕ)} {start 
       rw f.at at ((b.story.came r (point round) (omega (arith, f.upto)) t.0 up).number)
 
   -- one round further back
-  pub follow_more : (r : ℕ) (a : ExactBound k) → r + 1 ≡ round → round < length points → r < length numbers → a ≡ numbered edges (noted_via via r here)
-      → Followed k edges n via start r a.left (set points r a.left) (set numbers r (noted_via via r here))
-  follow_more r a e long room is = record {
+  pub follow_more : (r left : ℕ) → r + 1 ≡ round → round < length points → r < length numbers → left ≡ (numbered edges (noted_via via r here)).left
+      → Followed k edges n via start r left (set points r left) (set numbers r (noted_via via r here))
+  follow_more r left e long room is = record {
     upto = omega (arith, f.upto);
     inside = rw is ((All-get_or (Inside k n) edges (noted_via via r here) (floor_of k 0) (noted_below r e) inside).left);
-    top = get_or-set_other points r n a.left 0 (λ z. omega (arith, f.upto)) ∙ f.top;
-    at = get_or-set_same points r a.left 0 (omega arith);
+    top = get_or-set_other points r n left 0 (λ z. omega (arith, f.upto)) ∙ f.top;
+    at = get_or-set_same points r left 0 (omega arith);
     notes = λ j l h. notes j l h (cases_eq j r);
     lefts = λ j l h. lefts j l h (cases_eq j r);
   }
@@ -95,22 +95,22 @@ module _ {k : Kind} {edges : Bounds k} {n : ℕ} {via : List (List ℕ)} {start 
       low : r < length points
       low = omega arith
 
-      above : (j : ℕ) → r ≤ j → get_or (set points r a.left) (j + 1) 0 ≡ get_or points (j + 1) 0
-      above j l = get_or-set_other points r (j + 1) a.left 0 (λ z. omega arith)
+      above : (j : ℕ) → r ≤ j → get_or (set points r left) (j + 1) 0 ≡ get_or points (j + 1) 0
+      above j l = get_or-set_other points r (j + 1) left 0 (λ z. omega arith)
 
       notes : (j : ℕ) → r ≤ j → j < n → (j ≡ r) ⊎ (j ≡ r → ⊥)
-          → get_or (set numbers r (noted_via via r here)) j 0 ≡ noted_via via j (get_or (set points r a.left) (j + 1) 0)
+          → get_or (set numbers r (noted_via via r here)) j 0 ≡ noted_via via j (get_or (set points r left) (j + 1) 0)
       notes j l h (inl d) =
-          let stands : get_or (set points r a.left) (j + 1) 0 ≡ here = above j l ∙ (ap (λ i. get_or points i 0) (ap (λ i. i + 1) d ∙ e) ∙ f.at) in
+          let stands : get_or (set points r left) (j + 1) 0 ≡ here = above j l ∙ (ap (λ i. get_or points i 0) (ap (λ i. i + 1) d ∙ e) ∙ f.at) in
           rw (stands, d) (get_or-set_same numbers r (noted_via via r here) 0 room)
       notes j l h (inr d) = rw (get_or-set_other numbers r j (noted_via via r here) 0 d, above j l) (f.notes j (omega arith) h)
 
       lefts : (j : ℕ) → r ≤ j → j < n → (j ≡ r) ⊎ (j ≡ r → ⊥)
-          → (numbered edges (get_or (set numbers r (noted_via via r here)) j 0)).left ≡ get_or (set points r a.left) j 0
+          → (numbered edges (get_or (set numbers r (noted_via via r here)) j 0)).left ≡ get_or (set points r left) j 0
       lefts j l h (inl d) =
-          rw (d, get_or-set_same numbers r (noted_via via r here) 0 room, get_or-set_same points r a.left 0 low) (ap (λ x. x.left) (sym is))
+          rw (d, get_or-set_same numbers r (noted_via via r here) 0 room, get_or-set_same points r left 0 low) (sym is)
       lefts j l h (inr d) =
-          rw (get_or-set_other numbers r j (noted_via via r here) 0 d, get_or-set_other points r j a.left 0 d) (f.lefts j (omega arith) h)
+          rw (get_or-set_other numbers r j (noted_via via r here) 0 d, get_or-set_other points r j left 0 d) (f.lefts j (omega arith) h)
 
 module _ {k : Kind} (laws : Lawful k) {edges : Bounds k} {n : ℕ} where
   -- followed down to round 0

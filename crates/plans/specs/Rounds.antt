@@ -8,7 +8,11 @@ use Rattle.network.specs.Earliest.{Reached}
 use Rattle.network.specs.Rounds.{carry}
 use Rattle.plans.specs.declared.label.Label.{Label}
 use Rattle.plans.specs.Questions.{numbered}
-use Rattle.plans.specs.Labels.{label_time, label_waits, noted_via}
+use Rattle.plans.specs.Labels.{label_time, label_via, label_waits, noted_via}
+
+-- the label of a point that does not wait
+abbrev pub rested : {X : Type 0} → Label X → Label X
+rested l = record { time = l.time; via = l.via; waits = false }
 
 module _ (k : Kind) (edges : Bounds k) where
   -- the time of p rose to x over the bound with the number v, whose left point waited
@@ -25,6 +29,10 @@ module _ (k : Kind) (edges : Bounds k) where
     pub raised : (p : ℕ) → p < n → again p ≡ true → Raised i old waits (via p) p (next p)
     pub seen : (j : ℕ) → j < i → waits (numbered edges j).left ≡ true
         → Le k (carry k (old (numbered edges j).left) (numbered edges j).delay) (next (numbered edges j).right)
+
+  -- a round from the labels `old` has made these labels by the bounds with numbers below i
+  abbrev pub Relaxed : {X : Type 0} → (X → Exact k) → ℕ → ℕ → List (Label X) → List (Label X) → Type 0
+  Relaxed means n i old labels = Round n i (label_time k means old) (label_waits old) (label_time k means labels) (label_via labels) (label_waits labels)
 
   -- the time of p is new after j rounds: it rose in the last, or p waited at the start
   pub record Fresh (begun : ℕ → Bool) (times : ℕ → ℕ → Exact k) (j p : ℕ) : Type 0 where

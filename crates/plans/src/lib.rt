@@ -4,6 +4,7 @@
 pub mod fault;
 mod label;
 mod question;
+mod round;
 mod trace;
 
 pub use fault::PlanFault;

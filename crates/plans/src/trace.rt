@@ -73,7 +73,7 @@ fn trail<D: Delay, B: Book>(
     points[question.points] = start;
     for round in (0..question.points).rev() {
         let number = via[round][point];
-        point = question.edge::<D>(number).left;
+        point = question.left(number);
         points[round] = point;
         numbers[round] = number;
     }

@@ -53,6 +53,17 @@ impl<'a, B: Book> Question<'a, B> {
         }
     }
 
+    // The left point of the bound in force with the number. A floor leaves point 0.
+    pub(crate) fn left(&self, number: usize) -> usize
+        requires number { number < length (question_rows B.meaning self.now) + self.now.points }
+        ensures { (k : Kind) → result ≡ (numbered (in_question B.meaning k self.now) number).left }
+    {
+        match self.row(number) {
+            Some(row) => row.left as usize,
+            None => 0,
+        }
+    }
+
     // The bound in force with the number.
     pub(crate) fn edge<D: Delay>(&self, number: usize) -> Edge<D>
         requires fit { All (Fit D.kind self.now.points) (question_rows B.meaning self.now) }
