@@ -30,7 +30,9 @@ all_back P xs ys a = All-weaker (Contains ys) P (λ x h. All-contains P (xs ++ y
 pub chain_turned : {k : Kind} → Lawful k → (edges : Bounds k) (n number : ℕ) (before after : List ℕ) → TurnedTo number before after → ChainOf k edges n before
     → ChainOf k edges n after
 chain_turned {k} laws edges n number before after t c = record {
-  below = rw t.new (All-append (λ v. v < length edges) t.back t.front (all_back (λ v. v < length edges) t.front t.back below) (all_front (λ v. v < length edges) t.front t.back below));
+  below =
+      let P : ℕ → Type 0 = λ v. v < length edges in
+      rw t.new (All-append P t.back t.front (all_back P t.front t.back below) (all_front P t.front t.back below));
   chain = rw (t.new, map-append (numbered edges) t.back t.front) (chain_turns laws edges (map (numbered edges) t.front) (map (numbered edges) t.back) chain);
   upto = rw (t.new, length-append t.back t.front) (omega (arith, c.upto, ap length t.old, length-append t.front t.back));
 }

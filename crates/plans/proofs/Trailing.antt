@@ -1,5 +1,5 @@
 -- The trail back from a point that waits after the last round, and the chain on it. Assumes nothing.
-use Rattle.std.proofs.Common.{◌≡◌, ℕ, zero, suc, ◌+◌, ◌-◌, ◌<◌, ◌≤◌, ◌⊎◌, List, ◌∷◌, map, length, get_or, take, drop, set, Bool, Some, None, Option, sym, refl, ap, ◌∙◌, inl, inr, ⊎_elim, arith, drop-cons, add-one, get_or-set_other, get_or-set_same}
+use Rattle.std.proofs.Common.{true, ◌≡◌, ℕ, zero, suc, ◌+◌, ◌-◌, ◌<◌, ◌≤◌, ◌⊎◌, List, ◌∷◌, map, length, get_or, take, drop, set, Bool, Some, None, Option, sym, refl, ap, ◌∙◌, inl, inr, ⊎_elim, arith, drop-cons, add-one, get_or-set_other, get_or-set_same}
 use Rattle.std.proofs.lemmas.Simd.{map-map}
 use Rattle.std.specs.List.{All, range_with_len, slice_range}
 use Rattle.std.specs.Option.{IsSome}
@@ -15,10 +15,24 @@ use Rattle.network.specs.Rounds.{Repeated, stretch}
 use Rattle.network.proofs.Counting.{all_counting}
 use Rattle.network.proofs.Orders.{le_lt_trans}
 use Rattle.network.proofs.Repeating.{rounds_repeat}
-use Rattle.plans.specs.Labels.{noted_via}
+use Rattle.plans.specs.declared.label.Label.{Label}
+use Rattle.plans.specs.Labels.{label_time, label_waits, noted_via}
 use Rattle.plans.specs.Questions.{numbered}
-use Rattle.plans.specs.Rounds.{Fresh, Came, Story}
+use Rattle.plans.specs.Rounds.{Fresh, Came, Story, Progress}
 use Rattle.plans.specs.Trails.{Behind, Trail, ChainOf, RepeatAt, FirstRepeatOf}
+
+-- rounds over all points that left `start` waiting
+pub behind : {k : Kind} {edges : Bounds k} {X : Type 0} {means : X → Exact k} {n : ℕ} {from labels : List (Label X)} {via : List (List ℕ)} {start : ℕ}
+    → Progress k edges means n from labels via n → start < n → label_waits labels start ≡ true → Behind k edges n via start
+behind {k} {edges} {X} {means} {n} {from} {labels} progress inside still = record {
+  begun = label_waits from;
+  first = label_time k means from;
+  time = label_time k means labels;
+  waits = label_waits labels;
+  story = progress.story;
+  inside = inside;
+  still = still;
+}
 
 -- a part of a list, by its places
 part_counting : (xs : List ℕ) (i m : ℕ) → i + m ≤ length xs → take m (drop i xs) ≡ map (λ a. get_or xs a 0) (range_with_len i m)
@@ -36,8 +50,8 @@ pub record Followed (k : Kind) (edges : Bounds k) (n : ℕ) (via : List (List �
   pub notes : (j : ℕ) → round ≤ j → j < n → get_or numbers j 0 ≡ noted_via via j (get_or points (j + 1) 0)
   pub lefts : (j : ℕ) → round ≤ j → j < n → (numbered edges (get_or numbers j 0)).left ≡ get_or points j 0
 
-module _ {k : Kind} (laws : Lawful k) {edges : Bounds k} {n : ℕ} {begun : ℕ → Bool} {first : ℕ → Exact k} {via : ℕ → ℕ → ℕ} {time : ℕ → Exact k} {waits : ℕ → Bool}
-    (s : Story k edges n n begun first via time waits) where
+module _ {k : Kind} (laws : Lawful k) {edges : Bounds k} {n : ℕ} {begun : ℕ → Bool} {first : ℕ → Exact k} {via : ℕ → ℕ → ℕ}
+    {time : ℕ → Exact k} {waits : ℕ → Bool} (s : Story k edges n n begun first via time waits) where
   -- times only rise
   rises_by : (i d j : ℕ) → i + d ≡ j → j ≤ n → (p : ℕ) → p < n → Le k (s.times i p) (s.times j p)
   rises_by i zero j e h p l = let same : i ≡ j = omega arith in rw same (laws.reflexive (s.times j p))
@@ -130,14 +144,18 @@ module _ {k : Kind} (laws : Lawful k) {edges : Bounds k} {n : ℕ} where
           let p = get_or points j 0 in
           let t = stop b inside f j (omega arith) h in
           let up : Lt k (b.story.times j' p) (b.story.times j p) = t.1.later j' last in
-          rw e (le_lt_trans laws (b.story.times i p) (b.story.times j' p) (b.story.times j p) (rises_by laws b.story i (j' - i) j' (omega arith) (omega arith) p t.0) up);
+          let since = rises_by laws b.story i (j' - i) j' (omega arith) (omega arith) p t.0 in
+          rw e (le_lt_trans laws (b.story.times i p) (b.story.times j' p) (b.story.times j p) since up);
     };
     below = λ i h. (came_at b inside f i (omega arith) h).number;
   }
 
   module _ {points numbers : List ℕ} (t : Trail k edges n points numbers) (long : n < length points) where
+    abbrev noted : ℕ → ℕ
+    noted i = get_or numbers i 0
+
     abbrev over : ℕ → ExactBound k
-    over i = numbered edges (get_or numbers i 0)
+    over i = numbered edges (noted i)
 
     repeated : Repeated k edges n (λ i. get_or points i 0) over
     repeated = rounds_repeat laws edges n n (λ i. get_or points i 0) t.label over t.traced (omega arith)
@@ -153,11 +171,16 @@ module _ {k : Kind} (laws : Lawful k) {edges : Bounds k} {n : ℕ} where
     repeat_found (Some r) found = refl
     repeat_found None none =
         let r = repeated in
-        absurd (none r.from r.to r.before (omega (arith, r.within, count)) (first_points r.from (omega (arith, r.before, r.within)) ∙ (r.same ∙ sym (first_points r.to r.within))))
+        let same = first_points r.from (omega (arith, r.before, r.within)) ∙ (r.same ∙ sym (first_points r.to r.within)) in
+        absurd (none r.from r.to r.before (omega (arith, r.within, count)) same)
 
     -- and the bounds between the first two rounds with one point are a chain
-    pub chain_found : (from to : ℕ) → RepeatAt (take (n + 1) points) from to → n ≤ length numbers → (from < to) × (to ≤ n) × ChainOf k edges n (slice_range numbers from to)
-    chain_found from to at room = (at.before, upto, record { below = below; chain = chain; upto = omega (arith, upto, length-between numbers from to (omega (arith, upto))) })
+    pub chain_found : (from to : ℕ) → RepeatAt (take (n + 1) points) from to → n ≤ length numbers → ChainOf k edges n (slice_range numbers from to)
+    chain_found from to at room = record {
+      below = rw counted (all_counting (λ v. v < length edges) noted from (to - from) (λ a l h. t.below a (omega (arith, upto, at.before))));
+      chain = rw (counted, map-map (numbered edges) noted (range_with_len from (to - from))) between;
+      upto = omega (arith, upto, length-between numbers from to (omega (arith, upto)));
+    }
       where
         r : Repeated k edges n (λ i. get_or points i 0) over
         r = repeated
@@ -173,21 +196,20 @@ module _ {k : Kind} (laws : Lawful k) {edges : Bounds k} {n : ℕ} where
 
         -- there is one first repeat
         one_to : to ≡ r.to
-        one_to = ⊎_elim (λ low. absurd (r.first from to at.before low same))
+        one_to =
+            ⊎_elim (λ low. absurd (r.first from to at.before low same))
             (λ high. ⊎_elim (λ low. absurd (apart r.from r.to r.before low r.same)) (λ up. omega arith) (cases_lt r.to to)) (cases_lt to r.to)
 
-        one_from : from ≡ r.from
-        one_from = ⊎_elim (λ low. absurd (r.first from r.from low r.before (same ∙ (ap (λ i. get_or points i 0) one_to ∙ sym r.same))))
-            (λ high. ⊎_elim (λ low. absurd (apart r.from from low at.before (r.same ∙ (ap (λ i. get_or points i 0) (sym one_to) ∙ sym same)))) (λ up. omega arith)
-            (cases_lt r.from from)) (cases_lt from r.from)
+        alike : get_or points from 0 ≡ get_or points r.from 0
+        alike = same ∙ (ap (λ i. get_or points i 0) one_to ∙ sym r.same)
 
-        counted : slice_range numbers from to ≡ map (λ i. get_or numbers i 0) (range_with_len from (to - from))
+        one_from : from ≡ r.from
+        one_from =
+            ⊎_elim (λ low. absurd (r.first from r.from low r.before alike))
+            (λ high. ⊎_elim (λ low. absurd (apart r.from from low at.before (sym alike))) (λ up. omega arith) (cases_lt r.from from)) (cases_lt from r.from)
+
+        counted : slice_range numbers from to ≡ map noted (range_with_len from (to - from))
         counted = part_counting numbers from (to - from) (omega (arith, upto, at.before))
 
-        below : All (λ v. v < length edges) (slice_range numbers from to)
-        below = rw counted (all_counting (λ v. v < length edges) (λ i. get_or numbers i 0) from (to - from) (λ a l h. t.below a (omega (arith, upto, at.before))))
-
-        chain : ChainIn k edges (map (numbered edges) (slice_range numbers from to))
-        chain =
-            let whole_chain : ChainIn k edges (stretch over from to) = rw (one_from, one_to) r.chain in
-            rw (counted, map-map (numbered edges) (λ i. get_or numbers i 0) (range_with_len from (to - from))) whole_chain
+        between : ChainIn k edges (stretch over from to)
+        between = rw (one_from, one_to) r.chain

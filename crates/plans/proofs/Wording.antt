@@ -1,20 +1,12 @@
 -- The words of bounds by number, and writing them. Assumes nothing.
-use Rattle.std.proofs.Common.{◌≡◌, ℕ, ◌+◌, ◌^◌, ◌<◌, ◌≤◌, ◌⊎◌, List, map, length, get_or, set, drop, sym, refl, ap, ◌∙◌, inl, inr, arith, get_or-set_other, get_or-set_same, Ok, Err, Result, drop-drop}
+use Rattle.std.proofs.Common.{◌≡◌, ℕ, ◌+◌, ◌^◌, ◌<◌, ◌⊎◌, List, length, get_or, set, drop, sym, refl, ap, ◌∙◌, inl, inr, arith, get_or-set_other, get_or-set_same, Ok, Err, Result, drop-drop}
 use Rattle.std.proofs.lemmas.Bool.{cases_eq}
-use Rattle.std.specs.List.{All}
 use Rattle.std.specs.Result.{IsOk}
-use Rattle.std.proofs.lemmas.List.{length-map, length-set, drop-set-lt}
-use Rattle.std.proofs.lemmas.List.Elements.{All-get_or, All-map, All-weaker}
+use Rattle.std.proofs.lemmas.List.{length-set, drop-set-lt}
 use Rattle.bounds.specs.declared.row.Row.{Row}
 use Rattle.delays.specs.Kind.{Kind}
 use Rattle.network.specs.declared.link.Link.{Link}
-use Rattle.network.specs.declared.link.Link.TheVariants.{Book, Floor, Posted}
-use Rattle.network.specs.Bounds.{ExactBound, floor_of, Inside}
 use Rattle.network.specs.Links.{low_bits, WordOf}
-use Rattle.network.proofs.InForce.{force_inside}
-use Rattle.plans.specs.Rows.{exact_of, force, Fit}
-use Rattle.plans.specs.Questions.{numbered}
-use Rattle.plans.specs.Conflicts.{NamesOf}
 use Rattle.plans.specs.Trails.{WordFor, WordsWritten}
 
 -- lists that are the same from a place on are so from the next on

@@ -45,7 +45,8 @@ fn write_words<B: Book>(question: &Question<'_, B>, numbers: &[usize], list: &mu
     requires few { question.now.points ≤ 128 }
     requires numbers { All (λ v. v < length (question_rows B.meaning question.now) + question.now.points) numbers.now }
     requires list { length numbers.now ≤ length list.old }
-    ensures { (k : Kind) → WordsWritten k question.now.points (book_rows B.meaning question.now) (posted_rows question.now.posted) numbers.now (length numbers.now) list.old list.new }
+    ensures { (k : Kind) → WordsWritten k question.now.points (book_rows B.meaning question.now) (posted_rows question.now.posted)
+        numbers.now (length numbers.now) list.old list.new }
 {
     for (place, number) in numbers.iter().enumerate() {
         list[place] = word(question, *number);

@@ -80,7 +80,8 @@ impl<'a, B: Book> Question<'a, B> {
     pub(crate) fn link(&self, number: usize) -> Link
         requires few { self.now.points ≤ 128 }
         requires number { number < length (question_rows B.meaning self.now) + self.now.points }
-        ensures names { (k : Kind) → NamesOf k (map (exact_of k) (book_rows B.meaning self.now)) (map (exact_of k) (posted_rows self.now.posted)) result (numbered (in_question B.meaning k self.now) number) }
+        ensures names { (k : Kind) → NamesOf k (map (exact_of k) (book_rows B.meaning self.now)) (map (exact_of k) (posted_rows self.now.posted)) result
+            (numbered (in_question B.meaning k self.now) number) }
         ensures posted { number ≡ length (book_rows B.meaning self.now) → (posted_rows self.now.posted ≡ []) ⊎ (result ≡ Link.Posted) }
         ensures room { low_bits result < 2 ^ 30 }
     {

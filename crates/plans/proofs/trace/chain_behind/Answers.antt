@@ -8,5 +8,6 @@ unwrap-requires g c =
 
 pub returns-clause-chain : goal.returns-clause-chain
 returns-clause-chain g c =
+    let r = c.unwrap.result in
     let found = rw c.unwrap.ensures at c.first_repeat.ensures in
-    (chain_found g.met.D.Delay.lawful c.trail.ensures (omega (arith, c.requires.few)) c.unwrap.result.0 c.unwrap.result.1 found (omega (arith, c.requires.numbers))).2
+    chain_found g.met.D.Delay.lawful c.trail.ensures (omega (arith, c.requires.few)) r.0 r.1 found (omega (arith, c.requires.numbers))

@@ -6,4 +6,5 @@ use Rattle.plans.proofs.trace.write_words.Given as goal
 -- the words so far
 abbrev pub invariant-loop-place : goal.invariant-loop-place
 invariant-loop-place g l =
-    (k : Kind) → WordsWritten k l.question.points (book_rows g.B.Book.meaning l.question) (posted_rows l.question.posted) l.numbers l.place l.initial.list l.list
+    (k : Kind)
+    → WordsWritten k l.question.points (book_rows g.B.Book.meaning l.question) (posted_rows l.question.posted) l.numbers l.place l.initial.list l.list
