@@ -34,6 +34,11 @@ module _ (k : Kind) (edges : Bounds k) (n : ℕ) where
     pub chain : ChainIn k edges (map (numbered edges) numbers)
     pub upto : length numbers ≤ n
 
+-- a place of the number in the row, or nothing where it is not there
+abbrev pub PlaceOf : List ℕ → ℕ → Option ℕ → Type 0
+PlaceOf row number None = (i : ℕ) → i < length row → slice_index row i ≡ number → ⊥
+PlaceOf row number (Some i) = (i < length row) × (slice_index row i ≡ number)
+
 -- the number at `to` is that at `from`, and before `to` no number comes twice
 pub record RepeatAt (points : List ℕ) (from to : ℕ) : Type 0 where
   pub before : from < to

@@ -4,18 +4,26 @@ ghost use Rattle.delays.specs.Kind.{Kind};
 ghost use Rattle.plans.specs.Rows.{Fit, Solvable};
 ghost use Rattle.plans.specs.Conflicts.{ChainWritten};
 ghost use Rattle.plans.specs.Questions.{book_rows, posted_rows, question_rows, in_question};
-ghost use Rattle.plans.specs.Trails.{Behind, Trail, ChainOf, FirstRepeatOf, TurnedTo, WordFor, WordsWritten};
+ghost use Rattle.plans.specs.Trails.{Behind, Trail, ChainOf, PlaceOf, FirstRepeatOf, TurnedTo, WordFor, WordsWritten};
 
 use crate::question::Question;
 use books::Book;
 use delays::Delay;
 
-// The first two places that have one number, or nothing where no number comes twice.
+// A place of the number in the row, or nothing where it is not there.
+fn place_of(row: &[usize], number: usize) -> Option<usize>
+    ensures { PlaceOf row.now number result }
+{
+    row.iter().position(|other| *other == number)
+}
+
+// The first two places that have one number, or nothing where no number comes twice. There are at most 129 places, and each is looked
+// for among those before it.
 fn first_repeat(points: &[usize]) -> Option<(usize, usize)>
     ensures { FirstRepeatOf points.now result }
 {
     for (to, point) in points.iter().enumerate() {
-        if let Some(from) = points[..to].iter().position(|before| before == point) {
+        if let Some(from) = place_of(&points[..to], *point) {
             return Some((from, to));
         }
     }
@@ -26,7 +34,7 @@ fn first_repeat(points: &[usize]) -> Option<(usize, usize)>
 fn begin_with(row: &mut [usize], number: usize)
     ensures { TurnedTo number row.old row.new }
 {
-    if let Some(place) = row.iter().position(|other| *other == number) {
+    if let Some(place) = place_of(row, number) {
         row.rotate_left(place);
     }
 }
@@ -54,6 +62,7 @@ fn write_words<B: Book>(question: &Question<'_, B>, numbers: &[usize], list: &mu
 }
 
 // Goes back from `start`, round by round, and notes the point of each round and the number of the bound over which it got its time.
+// The kind of delay is that of the times: the trail itself reads no delay.
 fn trail<D: Delay, B: Book>(
     question: &Question<'_, B>,
     via: &[[usize; 128]],
