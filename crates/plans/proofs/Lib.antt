@@ -1,3 +1,7 @@
 pub mod Numbering
 pub mod Smallness
 pub mod Rounding
+pub mod Stories
+pub mod Progressing
+pub mod Waiting
+pub mod Spreading

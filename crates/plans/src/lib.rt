@@ -5,5 +5,6 @@ pub mod fault;
 mod label;
 mod question;
 mod round;
+mod spread;
 
 pub use fault::PlanFault;
