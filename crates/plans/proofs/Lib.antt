@@ -1,6 +1,10 @@
 pub mod Numbering
 pub mod Smallness
 pub mod Rounding
+pub mod Stories
+pub mod Progressing
+pub mod Waiting
+pub mod Spreading
 pub mod Wording
 pub mod Trailing
 pub mod Heading

@@ -5,6 +5,7 @@ pub mod fault;
 mod label;
 mod question;
 mod round;
+mod spread;
 mod trace;
 
 pub use fault::PlanFault;
