@@ -1,5 +1,5 @@
 -- A round, bound by bound. Assumes nothing.
-use Rattle.std.proofs.Common.{◌≡◌, ℕ, zero, suc, ◌+◌, ◌<◌, ◌≤◌, Bool, true, false, ◌⊎◌, List, [], ◌∷◌, map, length, get_or, set, sym, refl, ap, ◌∙◌, subst, inl, inr, ⊎_elim, arith}
+use Rattle.std.proofs.Common.{Decides, ◌≡◌, ℕ, zero, suc, ◌+◌, ◌<◌, ◌≤◌, Bool, true, false, ◌⊎◌, List, [], ◌∷◌, map, length, get_or, set, sym, refl, ap, ◌∙◌, subst, inl, inr, ⊎_elim, arith}
 use Rattle.std.proofs.lemmas.List.{map-set, get_or-map, get_or-set_same, get_or-set_other, length-map}
 use Rattle.std.proofs.lemmas.Bool.{both_ways, cases_Bool, cases_eq}
 use Rattle.std.proofs.lemmas.Simd.{map-map}
@@ -26,6 +26,10 @@ read_map f xs i x d h is = get_or-map f xs i x d h ∙ ap f (sym is)
 
 pub le_same : {k : Kind} → Lawful k → (x y : Exact k) → x ≡ y → Le k x y
 le_same {k} laws x y e = subst (λ z. Le k x z) e (laws.reflexive x)
+
+-- what is not above is at most
+pub not_above : (k : Kind) (x y : Exact k) (r : Bool) → Decides r (Lt k x y) → r ≡ false → Le k y x
+not_above k x y r d e = ⊎_elim (λ h. h) (λ h. absurd (both_ways r e (d.1 h))) (cases_Bool (k.leq y x))
 
 -- what the bound with the number i brings to its right point
 abbrev brought : {k : Kind} → Bounds k → (ℕ → Exact k) → ℕ → Exact k

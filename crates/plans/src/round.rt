@@ -32,9 +32,9 @@ fn relax<D: Delay, B: Book>(
     if from.waits {
         let edge: Edge<D> = question.edge(number);
         let time = from.time.add(edge.delay.opposite()).unwrap();
-        let here = labels[edge.right];
-        if !(time <= here.time) {
-            labels[edge.right] = Label {
+        let here = &mut labels[edge.right];
+        if here.time < time {
+            *here = Label {
                 time,
                 via: number,
                 waits: true,
