@@ -75,14 +75,16 @@ module _ {k : Kind} (laws : Lawful k) {edges : Bounds k} {n : ℕ} {old : ℕ �
       kept_at p l e (inl s) = absurd (both_ways (again' p) e (rw s here.2))
       kept_at p l e (inr s) = (there p s).0 ∙ r.kept p l (sym (there p s).2 ∙ e)
 
-      raised_at : (p : ℕ) → p < n → again' p ≡ true → (p ≡ (numbered edges i).right) ⊎ (p ≡ (numbered edges i).right → ⊥) → Raised k edges (i + 1) old waits (via' p) p (next' p)
+      raised_at : (p : ℕ) → p < n → again' p ≡ true → (p ≡ (numbered edges i).right) ⊎ (p ≡ (numbered edges i).right → ⊥)
+          → Raised k edges (i + 1) old waits (via' p) p (next' p)
       raised_at p l e (inl s) =
           rw (s, here.1, here.0)
           (record { number = omega arith; right = refl; left = w; value = value; above = le_lt_trans laws _ _ _ (rises r (numbered edges i).right small) up })
       raised_at p l e (inr s) = rw ((there p s).1, (there p s).0) (more (r.raised p l (sym (there p s).2 ∙ e)))
 
       seen_at : (j : ℕ) → j < i + 1 → waits (numbered edges j).left ≡ true → (j ≡ i) ⊎ (j ≡ i → ⊥)
-          → ((numbered edges j).right ≡ (numbered edges i).right) ⊎ ((numbered edges j).right ≡ (numbered edges i).right → ⊥) → Le k (brought edges old j) (next' (numbered edges j).right)
+          → ((numbered edges j).right ≡ (numbered edges i).right) ⊎ ((numbered edges j).right ≡ (numbered edges i).right → ⊥)
+          → Le k (brought edges old j) (next' (numbered edges j).right)
       seen_at j l e (inl s) d = rw s (le_same laws _ _ (sym value ∙ sym here.0))
       seen_at j l e (inr s) (inl d) = rw (d, here.0) (laws.transitive _ _ _ (rw d at (r.seen j (omega arith) e)) (lt_le laws _ _ up))
       seen_at j l e (inr s) (inr d) = rw (there (numbered edges j).right d).0 (r.seen j (omega arith) e)

@@ -10,12 +10,14 @@ use Rattle.plans.proofs.round.relax.Goals as goal
 
 pub offset_bounds-old-left : goal.offset_bounds-old-left
 offset_bounds-old-left g c =
-    let in_n = numbered_inside g.met.D.Delay.lawful g.B.Book.meaning g.met.B.Book.proper c.args.question.now c.requires.some c.requires.fit c.args.number c.requires.number in
+    let in_n = numbered_inside g.met.D.Delay.lawful g.B.Book.meaning g.met.B.Book.proper c.args.question.now
+    c.requires.some c.requires.fit c.args.number c.requires.number in
     omega (arith, c.left-left.ensures g.D.Delay.kind, in_n.left, c.requires.long)
 
 pub bounds-old-left : goal.bounds-old-left
 bounds-old-left g c =
-    let in_n = numbered_inside g.met.D.Delay.lawful g.B.Book.meaning g.met.B.Book.proper c.args.question.now c.requires.some c.requires.fit c.args.number c.requires.number in
+    let in_n = numbered_inside g.met.D.Delay.lawful g.B.Book.meaning g.met.B.Book.proper c.args.question.now
+    c.requires.some c.requires.fit c.args.number c.requires.number in
     omega (arith, c.left-left.ensures g.D.Delay.kind, in_n.left, c.requires.long)
 
 -- the old time is at most 255 times the greatest, and the delay at most once
@@ -26,29 +28,35 @@ unwrap-time-requires g c =
     let edges = in_question g.B.Book.meaning k c.args.question.now in
     let n = c.args.question.now.points in
     let at = numbered edges c.args.number in
-    let in_n = numbered_inside g.met.D.Delay.lawful g.B.Book.meaning g.met.B.Book.proper c.args.question.now c.requires.some c.requires.fit c.args.number c.requires.number in
+    let in_n = numbered_inside g.met.D.Delay.lawful g.B.Book.meaning g.met.B.Book.proper c.args.question.now
+    c.requires.some c.requires.fit c.args.number c.requires.number in
     let left = c.left-left.ensures k in
     let low : c.left-left.result < length c.args.old.now = omega (arith, left, in_n.left, c.requires.long) in
-    let small = numbered_small g.met.D.Delay.lawful g.B.Book.meaning g.met.B.Book.proper c.args.question.now c.requires.some c.requires.fit c.args.number c.requires.number in
+    let small = numbered_small g.met.D.Delay.lawful g.B.Book.meaning g.met.B.Book.proper c.args.question.now
+    c.requires.some c.requires.fit c.args.number c.requires.number in
     let from = from_time g.met.D.Delay.lawful d.means edges n c.args.number c.args.old.now c.args.labels.now c.requires.begun
     c.left-left.result c.index-old-left.result low c.index-old-left.is left in
     let sum = g.met.D.Delay.lawful.size_sum (d.means c.index-old-left.result.time) (d.means c.opposite.result) in
     let back = g.met.D.Delay.lawful.size_opposite (d.means c.edge-edge.result.delay) in
     let delay = ap (λ b. k.size b.delay) {y = at} c.edge-edge.ensures in
     let near = c.requires.near _ in_n.left in
-    some_since _ _ _ c.add.ensures (λ over. omega (arith, over, sum, back, ap k.size c.opposite.ensures, ap k.size from, delay, g.met.D.Delay.room, near, small))
+    some_since _ _ _ c.add.ensures (λ over.
+    omega (arith, over, sum, back, ap k.size c.opposite.ensures, ap k.size from, delay, g.met.D.Delay.room, near, small))
 
 pub bounds-labels-edge : goal.bounds-labels-edge
 bounds-labels-edge g c =
     let at = numbered (in_question g.B.Book.meaning g.D.Delay.kind c.args.question.now) c.args.number in
-    let in_n = numbered_inside g.met.D.Delay.lawful g.B.Book.meaning g.met.B.Book.proper c.args.question.now c.requires.some c.requires.fit c.args.number c.requires.number in
+    let in_n = numbered_inside g.met.D.Delay.lawful g.B.Book.meaning g.met.B.Book.proper c.args.question.now
+    c.requires.some c.requires.fit c.args.number c.requires.number in
     omega (arith, ap (λ b. b.right) {y = at} c.edge-edge.ensures, in_n.right, c.requires.long)
 
 pub offset_bounds-labels-edge : goal.offset_bounds-labels-edge
 offset_bounds-labels-edge g c =
     let at = numbered (in_question g.B.Book.meaning g.D.Delay.kind c.args.question.now) c.args.number in
-    let in_n = numbered_inside g.met.D.Delay.lawful g.B.Book.meaning g.met.B.Book.proper c.args.question.now c.requires.some c.requires.fit c.args.number c.requires.number in
-    let low : c.edge-edge.result.right < length c.args.labels.now = omega (arith, ap (λ b. b.right) {y = at} c.edge-edge.ensures, in_n.right, c.requires.long) in
+    let in_n = numbered_inside g.met.D.Delay.lawful g.B.Book.meaning g.met.B.Book.proper c.args.question.now
+    c.requires.some c.requires.fit c.args.number c.requires.number in
+    let low : c.edge-edge.result.right < length c.args.labels.now =
+    omega (arith, ap (λ b. b.right) {y = at} c.edge-edge.ensures, in_n.right, c.requires.long) in
     search rules
 
 pub returns-else-from : goal.returns-else-from
@@ -58,7 +66,8 @@ returns-else-from g c =
     let edges = in_question g.B.Book.meaning k c.args.question.now in
     let n = c.args.question.now.points in
     let at = numbered edges c.args.number in
-    let in_n = numbered_inside g.met.D.Delay.lawful g.B.Book.meaning g.met.B.Book.proper c.args.question.now c.requires.some c.requires.fit c.args.number c.requires.number in
+    let in_n = numbered_inside g.met.D.Delay.lawful g.B.Book.meaning g.met.B.Book.proper c.args.question.now
+    c.requires.some c.requires.fit c.args.number c.requires.number in
     let left = c.left-left.ensures k in
     let low : c.left-left.result < length c.args.old.now = omega (arith, left, in_n.left, c.requires.long) in
     relaxed_idle g.met.D.Delay.lawful d.means edges n c.args.number c.args.old.now c.args.labels.now c.requires.begun
@@ -71,7 +80,8 @@ returns-else-lt g c =
     let edges = in_question g.B.Book.meaning k c.args.question.now in
     let n = c.args.question.now.points in
     let at = numbered edges c.args.number in
-    let in_n = numbered_inside g.met.D.Delay.lawful g.B.Book.meaning g.met.B.Book.proper c.args.question.now c.requires.some c.requires.fit c.args.number c.requires.number in
+    let in_n = numbered_inside g.met.D.Delay.lawful g.B.Book.meaning g.met.B.Book.proper c.args.question.now
+    c.requires.some c.requires.fit c.args.number c.requires.number in
     let left = c.left-left.ensures k in
     let low : c.left-left.result < length c.args.old.now = omega (arith, left, in_n.left, c.requires.long) in
     let edge = bound_of k d.means c.edge-edge.result in
@@ -82,7 +92,8 @@ returns-else-lt g c =
     rw (set-get_or c.args.labels.now edge.right c.index-labels-edge.result)
     (relaxed_enough g.met.D.Delay.lawful d.means edges n c.args.number c.args.old.now c.args.labels.now c.requires.begun
     c.left-left.result c.index-old-left.result low c.index-old-left.is left
-    edge c.edge-edge.ensures c.unwrap-time.result sum c.index-labels-edge.result right c.index-labels-edge.is (not_above k _ _ c.lt.result below c.if-lt.false))
+    edge c.edge-edge.ensures c.unwrap-time.result sum c.index-labels-edge.result right c.index-labels-edge.is
+    (not_above k _ _ c.lt.result below c.if-lt.false))
 
 pub returns-then-lt : goal.returns-then-lt
 returns-then-lt g c =
@@ -91,7 +102,8 @@ returns-then-lt g c =
     let edges = in_question g.B.Book.meaning k c.args.question.now in
     let n = c.args.question.now.points in
     let at = numbered edges c.args.number in
-    let in_n = numbered_inside g.met.D.Delay.lawful g.B.Book.meaning g.met.B.Book.proper c.args.question.now c.requires.some c.requires.fit c.args.number c.requires.number in
+    let in_n = numbered_inside g.met.D.Delay.lawful g.B.Book.meaning g.met.B.Book.proper c.args.question.now
+    c.requires.some c.requires.fit c.args.number c.requires.number in
     let left = c.left-left.ensures k in
     let low : c.left-left.result < length c.args.old.now = omega (arith, left, in_n.left, c.requires.long) in
     let edge = bound_of k d.means c.edge-edge.result in
