@@ -1,8 +1,14 @@
 // What a plan refuses, and which refusal comes first.
-use crate::setups::{Numbers, TickPlan, post, post_on, settle, settled, table, time, unread};
+use crate::setups::{
+    Numbers, TickPlan, moved, post, post_on, settle, settled, table, time, unread,
+};
 use books::Table;
-use plans::{Plan, PlanFault, Posted};
+use plans::{Plan, PlanFault};
 use std::test::Fail;
+
+fn point(place: usize) -> PlanFault {
+    PlanFault::Point { place }
+}
 
 // An unsettled plan with no bound.
 fn opened(points: usize) -> TickPlan {
@@ -35,10 +41,7 @@ fn lists_at_the_number_of_points(rt: HostRuntime) {
         post_on(&mut plan, [1, 0, 5, 0], &mut [0; 2]),
         Err(PlanFault::ListShort)
     );
-    assert_eq!(rt;
-        post_on(&mut plan, [1, 0, 5, 0], &mut [0; 3]),
-        Ok(Posted::Moved { count: 0 })
-    );
+    assert_eq!(rt; post_on(&mut plan, [1, 0, 5, 0], &mut [0; 3]), moved(0));
     assert_eq!(rt; plan.settle(&mut [0; 3]), Err(PlanFault::SettledAlready));
     assert_eq!(rt; plan.settle(&mut []), Err(PlanFault::SettledAlready));
 }
@@ -71,8 +74,8 @@ fn points_that_are_read(rt: HostRuntime) -> Result<(), Fail> {
     let plan: TickPlan = settled(2, &[[0, 1, -5, 0]])?;
     assert_eq!(rt; time(&plan, 0), Ok((0, 0)));
     assert_eq!(rt; time(&plan, 1), Ok((5, 0)));
-    for point in [2, 127, 128, usize::MAX] {
-        assert_eq!(rt; time(&plan, point), Err(PlanFault::Point { place: 1 }));
+    for past in [2, 127, 128, usize::MAX] {
+        assert_eq!(rt; time(&plan, past), Err(point(1)));
     }
     Ok(())
 }
@@ -82,9 +85,9 @@ fn points_that_are_read(rt: HostRuntime) -> Result<(), Fail> {
 fn posts_are_refused_in_order(rt: HostRuntime) -> Result<(), Fail> {
     let mut plan: TickPlan = settled(2, &[[1, 0, 5, 0]])?;
     let table: [(Numbers, PlanFault); 7] = [
-        ([2, 2, 0, 1], PlanFault::Point { place: 1 }),
-        ([4095, 0, 0, 0], PlanFault::Point { place: 1 }),
-        ([1, 2, 0, 1], PlanFault::Point { place: 2 }),
+        ([2, 2, 0, 1], point(1)),
+        ([4095, 0, 0, 0], point(1)),
+        ([1, 2, 0, 1], point(2)),
         ([1, 0, 5, 1], unread(0)),
         ([1, 0, 5, -1], unread(0)),
         ([1, 0, 5, 0], PlanFault::ListShort),
@@ -93,37 +96,22 @@ fn posts_are_refused_in_order(rt: HostRuntime) -> Result<(), Fail> {
     for (numbers, fault) in table {
         assert_eq!(rt; post_on(&mut plan, numbers, &mut [0]), Err(fault));
     }
-    assert_eq!(rt;
-        post(&mut plan, [0, 1, -5, 0]),
-        Ok(Posted::Moved { count: 1 })
-    );
+    assert_eq!(rt; post(&mut plan, [0, 1, -5, 0]), moved(1));
     Ok(())
 }
 
 // The first bound that does not fit is named, and of one that does not fit in both ways its points. Some of these bounds conflict.
 #[test]
 fn books_that_do_not_fit(rt: HostRuntime) -> Result<(), Fail> {
-    let table_of_books: [([Numbers; 3], PlanFault); 6] = [
-        (
-            [[2, 0, 0, 0], [0, 1, 0, 1], [0, 2, 0, 0]],
-            PlanFault::Point { place: 0 },
-        ),
-        (
-            [[1, 0, 5, 0], [0, 2, 0, 0], [0, 1, 0, 1]],
-            PlanFault::Point { place: 1 },
-        ),
-        (
-            [[1, 0, 5, 0], [0, 2, 0, 1], [0, 1, 0, 1]],
-            PlanFault::Point { place: 1 },
-        ),
-        (
-            [[0, 0, -1, 0], [1, 1, -1, 0], [4095, 0, 0, 0]],
-            PlanFault::Point { place: 2 },
-        ),
+    let books: [([Numbers; 3], PlanFault); 6] = [
+        ([[2, 0, 0, 0], [0, 1, 0, 1], [0, 2, 0, 0]], point(0)),
+        ([[1, 0, 5, 0], [0, 2, 0, 0], [0, 1, 0, 1]], point(1)),
+        ([[1, 0, 5, 0], [0, 2, 0, 1], [0, 1, 0, 1]], point(1)),
+        ([[0, 0, -1, 0], [1, 1, -1, 0], [4095, 0, 0, 0]], point(2)),
         ([[1, 0, 5, 0], [0, 1, 0, 1], [2, 0, 0, 0]], unread(1)),
         ([[1, 0, 5, 0], [0, 1, -6, 0], [0, 1, 0, -1]], unread(2)),
     ];
-    for (bounds, fault) in table_of_books {
+    for (bounds, fault) in books {
         let mut plan: TickPlan = Plan::open(table(&bounds)?, 2, 7);
         assert_eq!(rt; plan.settle(&mut [0]), Err(PlanFault::ListShort));
         assert_eq!(rt; plan.settle(&mut [0; 2]), Err(fault));

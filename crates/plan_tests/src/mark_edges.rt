@@ -1,9 +1,9 @@
 // Marks in one another, and slips that are good and that are not.
-use crate::setups::{Numbers, TickPlan, counts, post, post_all, settle, settled, time};
+use crate::setups::{Numbers, TickPlan, counts, moved, post, post_all, settle, settled, time};
 use books::{Book, Table, WordBook};
 use bounds::Bound;
 use delays::Ticks;
-use plans::{Plan, PlanFault, Posted, Slip};
+use plans::{Plan, PlanFault, Slip};
 use std::test::Fail;
 use words::BoundWords;
 
@@ -66,14 +66,8 @@ fn a_back_takes_posts_back(rt: HostRuntime) -> Result<(), Fail> {
         assert_eq!(rt; time(&plan, 1), Ok((0, 0)));
         assert_eq!(rt; time(&plan, 2), Ok((1, 0)));
     }
-    assert_eq!(rt;
-        post(&mut plan, [0, 1, -7, 0]),
-        Ok(Posted::Moved { count: 1 })
-    );
-    assert_eq!(rt;
-        post(&mut plan, [1, 2, -1, 0]),
-        Ok(Posted::Moved { count: 1 })
-    );
+    assert_eq!(rt; post(&mut plan, [0, 1, -7, 0]), moved(1));
+    assert_eq!(rt; post(&mut plan, [1, 2, -1, 0]), moved(1));
     assert_eq!(rt; counts(&plan.close()), (0, 3, 1_021));
     Ok(())
 }

@@ -1,5 +1,5 @@
 // Posts that move points, that move none, that are covered, that conflict, and that find no free place.
-use crate::setups::{Numbers, TickPlan, counts, post, post_on, settle, settled, time};
+use crate::setups::{Numbers, TickPlan, counts, moved, post, post_on, settle, settled, time};
 use books::{Book, BookFault, Table, Trial, WordBook};
 use bounds::Bound;
 use delays::{Ranked, Ticks};
@@ -14,10 +14,6 @@ const POSTED: u32 = 0xC000_0000;
 const FIRST: u32 = 0x4000_0000;
 
 const FLOOR: u32 = 0x8000_0000;
-
-fn moved(count: usize) -> Result<Posted, PlanFault> {
-    Ok(Posted::Moved { count })
-}
 
 fn conflict(length: usize) -> Result<Posted, PlanFault> {
     Err(PlanFault::Conflict { length })

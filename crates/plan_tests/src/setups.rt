@@ -31,6 +31,11 @@ pub(crate) fn unread(place: usize) -> PlanFault {
     }
 }
 
+// What a post answers that is added.
+pub(crate) fn moved(count: usize) -> Result<Posted, PlanFault> {
+    Ok(Posted::Moved { count })
+}
+
 // The numbers of fixed bounds, added bounds and free places of any book.
 pub(crate) fn counts<B: Book>(book: &B) -> (usize, usize, usize) {
     (book.fixed_count(), book.added_count(), book.free_count())
