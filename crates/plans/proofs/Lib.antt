@@ -1,4 +1,5 @@
 pub mod Misfitting
 pub mod Numbering
 pub mod Passing
+pub mod Starting
 pub mod Tallies

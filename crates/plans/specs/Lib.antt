@@ -9,3 +9,4 @@ pub mod Questions
 pub mod Labels
 pub mod Rounds
 pub mod Misfits
+pub mod Solved

@@ -3,11 +3,12 @@ ghost use Rattle.std.specs.Prelude.{◌≡◌, Decides, All};
 ghost use Rattle.bounds.specs.Making.{row_of};
 ghost use Rattle.books.specs.Meaning.{bounds_of};
 ghost use Rattle.delays.specs.Kind.{Unread};
-ghost use Rattle.network.specs.Edges.{time_of_point};
 ghost use Rattle.plans.specs.Rows.{Covers, Covered, moved_count};
+ghost use Rattle.plans.specs.Labels.{label_time};
 ghost use Rattle.plans.specs.Misfits.{RowChecked, RowsChecked};
 
 use crate::fault::PlanFault;
+use crate::label::Label;
 use crate::question::edges::edge_of;
 use books::Book;
 use bounds::{Bound, Row};
@@ -65,16 +66,19 @@ pub(crate) fn covered<D: Delay, B: Book>(book: &B, bound: Bound) -> bool
     false
 }
 
-// The time of a point; points past the list are at zero.
-fn time_at<D: Delay>(times: &[D], point: usize) -> D
-    ensures { D.means result ≡ time_of_point D.kind D.means times.now point }
+// The time of a point; points past the labels are at zero.
+fn time_at<D: Delay>(labels: &[Label<D>], point: usize) -> D
+    ensures { D.means result ≡ label_time D.kind D.means labels.now point }
 {
-    times.get(point).copied().unwrap_or(D::zero())
+    match labels.get(point) {
+        Some(label) => label.time,
+        None => D::zero(),
+    }
 }
 
-// How many of the points have one time before and another after. Points past a list are at zero.
-pub(crate) fn moved<D: Delay>(before: &[D], after: &[D], points: usize) -> usize
-    ensures { result ≡ moved_count D.kind points (time_of_point D.kind D.means before.now) (time_of_point D.kind D.means after.now) }
+// How many of the points have one time before and another after. Points past the labels are at zero.
+pub(crate) fn moved<D: Delay>(before: &[Label<D>], after: &[Label<D>], points: usize) -> usize
+    ensures { result ≡ moved_count D.kind points (label_time D.kind D.means before.now) (label_time D.kind D.means after.now) }
 {
     let mut count = 0;
     for point in 0..points {

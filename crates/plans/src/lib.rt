@@ -5,5 +5,6 @@ mod checks;
 pub mod fault;
 mod label;
 mod question;
+mod solve;
 
 pub use fault::PlanFault;
