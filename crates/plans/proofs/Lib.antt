@@ -3,3 +3,12 @@ pub mod Numbering
 pub mod Passing
 pub mod Starting
 pub mod Tallies
+pub mod Smallness
+pub mod Rounding
+pub mod Stories
+pub mod Progressing
+pub mod Waiting
+pub mod Spreading
+pub mod Wording
+pub mod Trailing
+pub mod Heading

@@ -10,3 +10,4 @@ pub mod Labels
 pub mod Rounds
 pub mod Misfits
 pub mod Solved
+pub mod Trails

@@ -5,6 +5,9 @@ mod checks;
 pub mod fault;
 mod label;
 mod question;
+mod round;
 mod solve;
+mod spread;
+mod trace;
 
 pub use fault::PlanFault;
