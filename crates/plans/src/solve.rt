@@ -45,11 +45,12 @@ fn wake<D: Delay>(labels: &mut [Label<D>], point: usize)
 // then begins with.
 fn solve<D: Delay, B: Book>(
     question: &Question<'_, B>,
-    labels: &mut [Label<D>; 128],
+    labels: &mut [Label<D>],
     list: &mut [u32],
 ) -> Result<(), usize>
     requires some { 0 < question.now.points }
     requires few { question.now.points ≤ 128 }
+    requires labels { length labels.old ≡ 128 }
     requires list { question.now.points ≤ length list.old }
     requires fit { All (Fit D.kind question.now.points) (question_rows B.meaning question.now) }
     requires zero { label_time D.kind D.means labels.old 0 ≡ D.kind.zero }
@@ -65,15 +66,16 @@ fn solve<D: Delay, B: Book>(
 }
 
 // Gives the labels the earliest times of the book's bounds over so many points; or answers the length of a chain, which the list then
-// begins with. The labels are an array, since the room of a second such array is then known to be less than memory has.
+// begins with.
 pub(crate) fn settled_times<D: Delay, B: Book>(
     book: &B,
     points: usize,
-    labels: &mut [Label<D>; 128],
+    labels: &mut [Label<D>],
     list: &mut [u32],
 ) -> Result<(), usize>
     requires some { 0 < points }
     requires few { points ≤ 128 }
+    requires labels { length labels.old ≡ 128 }
     requires list { points ≤ length list.old }
     requires fit { All (Fit D.kind points) (bounds_of (B.meaning book.now)) }
     ensures { Solved D.kind D.means points (bounds_of (B.meaning book.now)) [] (bounds_of (B.meaning book.now)) list.old list.new labels.new result }
@@ -93,11 +95,12 @@ pub(crate) fn posted_times<D: Delay, B: Book>(
     book: &B,
     posted: Bound,
     points: usize,
-    labels: &mut [Label<D>; 128],
+    labels: &mut [Label<D>],
     list: &mut [u32],
 ) -> Result<(), usize>
     requires some { 0 < points }
     requires few { points ≤ 128 }
+    requires labels { length labels.old ≡ 128 }
     requires list { points ≤ length list.old }
     requires fit { All (Fit D.kind points) (bounds_of (B.meaning book.now)) }
     requires posted { Fit D.kind points (row_of posted) }
