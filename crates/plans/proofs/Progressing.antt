@@ -36,7 +36,8 @@ module _ {k : Kind} (laws : Lawful k) where
       All-from_get_or (Meets k (λ p. k.sum (t p) o)) edges (floor_of k 0)
       (λ i low.
       let b = numbered edges i in
-      rw (laws.assoc (t b.right) o b.delay, laws.comm o b.delay, ← laws.assoc (t b.right) b.delay o) (laws.shifts (t b.left) (k.sum (t b.right) b.delay) o (met i low)))
+      rw (laws.assoc (t b.right) o b.delay, laws.comm o b.delay, ← laws.assoc (t b.right) b.delay o)
+      (laws.shifts (t b.left) (k.sum (t b.right) b.delay) o (met i low)))
 
   -- times that meet the bounds have point 0 at zero, where its time is reached and not below zero
   still_zero : (edges : Bounds k) (t : ℕ → Exact k) → ((i : ℕ) → i < length edges → Meets k t (numbered edges i)) → Reached k edges 0 (t 0)

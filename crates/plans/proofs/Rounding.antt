@@ -1,5 +1,5 @@
 -- A round, bound by bound. Assumes nothing.
-use Rattle.std.proofs.Common.{◌≡◌, ℕ, zero, suc, ◌+◌, ◌<◌, ◌≤◌, Bool, true, false, ◌⊎◌, List, [], ◌∷◌, map, length, get_or, set, sym, refl, ap, ◌∙◌, subst, inl, inr, ⊎_elim, arith}
+use Rattle.std.proofs.Common.{Decides, ◌≡◌, ℕ, zero, suc, ◌+◌, ◌<◌, ◌≤◌, Bool, true, false, ◌⊎◌, List, [], ◌∷◌, map, length, get_or, set, sym, refl, ap, ◌∙◌, subst, inl, inr, ⊎_elim, arith}
 use Rattle.std.proofs.lemmas.List.{map-set, get_or-map, get_or-set_same, get_or-set_other, length-map}
 use Rattle.std.proofs.lemmas.Bool.{both_ways, cases_Bool, cases_eq}
 use Rattle.std.proofs.lemmas.Simd.{map-map}
@@ -26,6 +26,10 @@ read_map f xs i x d h is = get_or-map f xs i x d h ∙ ap f (sym is)
 
 pub le_same : {k : Kind} → Lawful k → (x y : Exact k) → x ≡ y → Le k x y
 le_same {k} laws x y e = subst (λ z. Le k x z) e (laws.reflexive x)
+
+-- what is not above is at most
+pub not_above : (k : Kind) (x y : Exact k) (r : Bool) → Decides r (Lt k x y) → r ≡ false → Le k y x
+not_above k x y r d e = ⊎_elim (λ h. h) (λ h. absurd (both_ways r e (d.1 h))) (cases_Bool (k.leq y x))
 
 -- what the bound with the number i brings to its right point
 abbrev brought : {k : Kind} → Bounds k → (ℕ → Exact k) → ℕ → Exact k
@@ -71,14 +75,16 @@ module _ {k : Kind} (laws : Lawful k) {edges : Bounds k} {n : ℕ} {old : ℕ �
       kept_at p l e (inl s) = absurd (both_ways (again' p) e (rw s here.2))
       kept_at p l e (inr s) = (there p s).0 ∙ r.kept p l (sym (there p s).2 ∙ e)
 
-      raised_at : (p : ℕ) → p < n → again' p ≡ true → (p ≡ (numbered edges i).right) ⊎ (p ≡ (numbered edges i).right → ⊥) → Raised k edges (i + 1) old waits (via' p) p (next' p)
+      raised_at : (p : ℕ) → p < n → again' p ≡ true → (p ≡ (numbered edges i).right) ⊎ (p ≡ (numbered edges i).right → ⊥)
+          → Raised k edges (i + 1) old waits (via' p) p (next' p)
       raised_at p l e (inl s) =
           rw (s, here.1, here.0)
           (record { number = omega arith; right = refl; left = w; value = value; above = le_lt_trans laws _ _ _ (rises r (numbered edges i).right small) up })
       raised_at p l e (inr s) = rw ((there p s).1, (there p s).0) (more (r.raised p l (sym (there p s).2 ∙ e)))
 
       seen_at : (j : ℕ) → j < i + 1 → waits (numbered edges j).left ≡ true → (j ≡ i) ⊎ (j ≡ i → ⊥)
-          → ((numbered edges j).right ≡ (numbered edges i).right) ⊎ ((numbered edges j).right ≡ (numbered edges i).right → ⊥) → Le k (brought edges old j) (next' (numbered edges j).right)
+          → ((numbered edges j).right ≡ (numbered edges i).right) ⊎ ((numbered edges j).right ≡ (numbered edges i).right → ⊥)
+          → Le k (brought edges old j) (next' (numbered edges j).right)
       seen_at j l e (inl s) d = rw s (le_same laws _ _ (sym value ∙ sym here.0))
       seen_at j l e (inr s) (inl d) = rw (d, here.0) (laws.transitive _ _ _ (rw d at (r.seen j (omega arith) e)) (lt_le laws _ _ up))
       seen_at j l e (inr s) (inr d) = rw (there (numbered edges j).right d).0 (r.seen j (omega arith) e)

@@ -42,7 +42,8 @@ module _ {k : Kind} (laws : Lawful k) where
     pub edges_inside : All (Inside k n) (force k n rows)
     edges_inside =
         force_inside k n (map (exact_of k) rows) some
-        (All-map (Inside k n) (exact_of k) rows (All-weaker (Fit k n) (λ r. Inside k n (exact_of k r)) (λ r f. record { left = f.left; right = f.right }) rows fit))
+        (All-map (Inside k n) (exact_of k) rows
+        (All-weaker (Fit k n) (λ r. Inside k n (exact_of k r)) (λ r f. record { left = f.left; right = f.right }) rows fit))
 
     pub edges_small : All (Small k) (force k n rows)
     edges_small =
@@ -72,8 +73,10 @@ module _ {k : Kind} (laws : Lawful k) {B : Type 0} (meaning : B → Meaning) (pr
     module _ (number : ℕ) (low : number < length (question_rows meaning q) + q.points) where
       pub numbered_inside : Inside k q.points (numbered (in_question meaning k q) number)
       numbered_inside =
-          All-get_or (Inside k q.points) (in_question meaning k q) number (floor_of k 0) (rw (edges_length k q.points (question_rows meaning q)) low) question_inside
+          All-get_or (Inside k q.points) (in_question meaning k q) number (floor_of k 0)
+          (rw (edges_length k q.points (question_rows meaning q)) low) question_inside
 
       pub numbered_small : Small k (numbered (in_question meaning k q) number)
       numbered_small =
-          All-get_or (Small k) (in_question meaning k q) number (floor_of k 0) (rw (edges_length k q.points (question_rows meaning q)) low) question_small
+          All-get_or (Small k) (in_question meaning k q) number (floor_of k 0)
+          (rw (edges_length k q.points (question_rows meaning q)) low) question_small

@@ -30,20 +30,25 @@ module _ {k : Kind} (laws : Lawful k) (edges : Bounds k) (n : ℕ) (inside : All
             let c = r.raised p l e in
             let b = numbered edges (new p) in
             rw c.value (subst (λ (q : ℕ). Reached k edges q (carry k (old b.left) b.delay)) c.right
-            (reached_over laws edges b (old b.left) (Contains-get_or edges (new p) (floor_of k 0) c.number) (h b.left (in_points edges n inside (new p) c.number).left)))
+            (reached_over laws edges b (old b.left) (Contains-get_or edges (new p) (floor_of k 0) c.number)
+            (h b.left (in_points edges n inside (new p) c.number).left)))
 
         same : again p ≡ false → Reached k edges p (next p)
         same e = rw (r.kept p l e) (h p l)
 
     -- bounds whose left points don't wait are still met
     pub quiet_next : Quiet k edges old waits → Quiet k edges next again
-    quiet_next q i l e = rw (r.kept (numbered edges i).left (in_points edges n inside i l).left e) (⊎_elim seen still (cases_Bool (waits (numbered edges i).left)))
+    quiet_next q i l e =
+        rw (r.kept (numbered edges i).left (in_points edges n inside i l).left e)
+        (⊎_elim seen still (cases_Bool (waits (numbered edges i).left)))
       where
         seen : waits (numbered edges i).left ≡ true → Le k (old (numbered edges i).left) (k.sum (next (numbered edges i).right) (numbered edges i).delay)
         seen w = (theory laws).move_left _ _ _ (r.seen i l w)
 
         still : waits (numbered edges i).left ≡ false → Le k (old (numbered edges i).left) (k.sum (next (numbered edges i).right) (numbered edges i).delay)
-        still w = laws.transitive _ _ _ (q i l w) (laws.shifts _ _ (numbered edges i).delay (rises laws r (numbered edges i).right (in_points edges n inside i l).right))
+        still w =
+            laws.transitive _ _ _ (q i l w)
+            (laws.shifts _ _ (numbered edges i).delay (rises laws r (numbered edges i).right (in_points edges n inside i l).right))
 
 -- the times of a story, with those of one round more
 abbrev longer : {X : Type 0} → ℕ → (ℕ → ℕ → X) → (ℕ → X) → ℕ → ℕ → X
@@ -87,7 +92,10 @@ module _ {k : Kind} (laws : Lawful k) (edges : Bounds k) (n : ℕ) (inside : All
     last = λ p l. top done s.times next (done + 1) p (omega arith);
     rise = λ j p h l. rise_at j p h l (cases_eq j done);
     came = λ j p h l u. came_at j p h l u (cases_eq j done);
-    wait = λ p l e. record { first = λ z. absurd (omega arith); later = λ i z. let same : i ≡ done = omega arith in rw (same, topmost p, lowmost p l) (r.raised p l e).above };
+    wait = λ p l e. record {
+      first = λ z. absurd (omega arith);
+      later = λ i z. let same : i ≡ done = omega arith in rw (same, topmost p, lowmost p l) (r.raised p l e).above;
+    };
   }
     where
       topmost : (p : ℕ) → longer done s.times next (done + 1) p ≡ next p

@@ -29,7 +29,9 @@ module _ {X : Type 0} (labels : List (Label X)) (n : ℕ) (room : n ≤ length l
   pub none_waits : None ≡ position (λ l. l.waits) (take n labels) → (p : ℕ) → p < n → label_waits labels p ≡ false
   none_waits e p low =
       let x = element labels (omega arith) in
-      let past : n ≤ first = ⊎_elim (λ h. absurd (none-some first (e ∙ cond-true _ (Some first) None (lt-ltb first (length (take n labels)) h)))) (λ h. omega (arith, long)) (cases_lt first (length (take n labels))) in
+      let past : n ≤ first =
+      ⊎_elim (λ h. absurd (none-some first (e ∙ cond-true _ (Some first) None (lt-ltb first (length (take n labels)) h)))) (λ h. omega (arith, long))
+      (cases_lt first (length (take n labels))) in
       read x p low ∙ fails_before_first (λ l. l.waits) (take n labels) p x (omega arith)
 
   -- one that is found waits

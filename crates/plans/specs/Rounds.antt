@@ -36,6 +36,10 @@ module _ (k : Kind) (edges : Bounds k) where
   abbrev pub Relaxed : {X : Type 0} → (X → Exact k) → ℕ → ℕ → List (Label X) → List (Label X) → Type 0
   Relaxed means n i old labels = Round n i (label_time k means old) (label_waits old) (label_time k means labels) (label_via labels) (label_waits labels)
 
+  -- and by all of them
+  abbrev pub RoundMade : {X : Type 0} → (X → Exact k) → ℕ → List (Label X) → List (Label X) → Type 0
+  RoundMade means n old labels = Relaxed means n (length edges) old labels
+
   -- the time of p is new after j rounds: it rose in the last, or p waited at the start
   pub record Fresh (begun : ℕ → Bool) (times : ℕ → ℕ → Exact k) (j p : ℕ) : Type 0 where
     pub first : j ≡ 0 → begun p ≡ true

@@ -3,7 +3,7 @@ ghost use Rattle.std.specs.Prelude.{◌≡◌, ℕ, ◌+◌, ◌*◌, ◌<◌, �
 ghost use Rattle.plans.specs.Rows.{Fit};
 ghost use Rattle.plans.specs.Questions.{question_rows, in_question};
 ghost use Rattle.plans.specs.Labels.{label_time};
-ghost use Rattle.plans.specs.Rounds.{Relaxed, rested};
+ghost use Rattle.plans.specs.Rounds.{Relaxed, RoundMade, rested};
 
 use crate::label::Label;
 use crate::question::Question;
@@ -32,9 +32,9 @@ fn relax<D: Delay, B: Book>(
     if from.waits {
         let edge: Edge<D> = question.edge(number);
         let time = from.time.add(edge.delay.opposite()).unwrap();
-        let here = labels[edge.right];
-        if !(time <= here.time) {
-            labels[edge.right] = Label {
+        let here = &mut labels[edge.right];
+        if here.time < time {
+            *here = Label {
                 time,
                 via: number,
                 waits: true,
@@ -55,7 +55,7 @@ pub(crate) fn round<D: Delay, B: Book>(
     requires fit { All (Fit D.kind question.now.points) (question_rows B.meaning question.now) }
     requires near { (p : ℕ) → p < question.now.points → D.kind.size (label_time D.kind D.means old.now p) ≤ 255 * D.kind.greatest }
     requires rest { labels.old ≡ map rested old.now }
-    ensures { Relaxed D.kind (in_question B.meaning D.kind question.now) D.means question.now.points (length (question_rows B.meaning question.now) + question.now.points) old.now labels.new }
+    ensures { RoundMade D.kind (in_question B.meaning D.kind question.now) D.means question.now.points old.now labels.new }
 {
     for number in 0..question.count() {
         relax(question, number, old, labels);

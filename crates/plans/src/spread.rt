@@ -3,7 +3,7 @@ ghost use Rattle.std.specs.Prelude.{◌≡◌, ℕ, ◌+◌, ◌*◌, ◌<◌, �
 ghost use Rattle.plans.specs.Rows.{Fit};
 ghost use Rattle.plans.specs.Questions.{question_rows, in_question};
 ghost use Rattle.plans.specs.Labels.{label_time, label_via, label_waits};
-ghost use Rattle.plans.specs.Rounds.{Relaxed, Progress, Spread};
+ghost use Rattle.plans.specs.Rounds.{RoundMade, Progress, Spread};
 
 use crate::label::Label;
 use crate::question::Question;
@@ -44,7 +44,7 @@ fn advance<D: Delay, B: Book>(
     requires old { length old.old ≡ 128 }
     requires fit { All (Fit D.kind question.now.points) (question_rows B.meaning question.now) }
     requires near { (p : ℕ) → p < question.now.points → D.kind.size (label_time D.kind D.means labels.old p) ≤ 255 * D.kind.greatest }
-    ensures { Relaxed D.kind (in_question B.meaning D.kind question.now) D.means question.now.points (length (question_rows B.meaning question.now) + question.now.points) labels.old labels.new }
+    ensures { RoundMade D.kind (in_question B.meaning D.kind question.now) D.means question.now.points labels.old labels.new }
 {
     old.copy_from_slice(labels);
     rest(labels);

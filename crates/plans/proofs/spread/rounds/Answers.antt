@@ -12,7 +12,8 @@ returns-in_err-first_waiting g c =
     let answer : c.from_residual.result ≡ None = search rules in
     let room : q.points ≤ length c.loop-number.labels = omega (arith, c.requires.few, c.requires.labels) in
     rw answer (spread_rest g.met.D.Delay.lawful g.D.Delay.means q.points (question_rows g.B.Book.meaning q) c.requires.some c.requires.fit sound
-    c.loop-number.number c.args.labels.now c.loop-number.labels c.loop-number.via c.loop-number.invariant room c.requires.zero (rw none at c.first_waiting.ensures))
+    c.loop-number.number c.args.labels.now c.loop-number.labels c.loop-number.via c.loop-number.invariant
+    room c.requires.zero (rw none at c.first_waiting.ensures))
 
 pub advance-requires-clause-near : goal.advance-requires-clause-near
 advance-requires-clause-near g c =
@@ -37,4 +38,5 @@ returns g c =
     let room : q.points ≤ length c.loop-number.labels = omega (arith, c.requires.few, c.requires.labels) in
     let all : c.loop-number.number ≡ q.points = omega arith in
     spread_done g.met.D.Delay.lawful g.D.Delay.means q.points (question_rows g.B.Book.meaning q) c.requires.some c.requires.fit sound
-    c.loop-number.number c.args.labels.now c.loop-number.labels c.loop-number.via c.loop-number.invariant room c.requires.zero all c.first_waiting-2.result c.first_waiting-2.ensures
+    c.loop-number.number c.args.labels.now c.loop-number.labels c.loop-number.via c.loop-number.invariant
+    room c.requires.zero all c.first_waiting-2.result c.first_waiting-2.ensures
