@@ -1,5 +1,5 @@
 use Rattle.std.proofs.Common.{◌≡◌, ◌+◌, Bool, not, cond, sym, ap, ◌∙◌, add-zero, arith}
-use Rattle.network.specs.Edges.{time_of_point}
+use Rattle.plans.specs.Labels.{label_time}
 use Rattle.plans.specs.Rows.{differ, moved_count}
 use Rattle.plans.proofs.Tallies.{tally_few, moved_more}
 use Rattle.plans.proofs.checks.moved.Goals as goal
@@ -7,13 +7,13 @@ use Rattle.plans.proofs.checks.moved.Goals.{then-ne, else-ne}
 
 pub overflow_add-count : goal.overflow_add-count
 overflow_add-count g c =
-    let time = time_of_point g.D.Delay.kind g.D.Delay.means in
+    let time = label_time g.D.Delay.kind g.D.Delay.means in
     omega (arith, tally_few (λ p. differ g.D.Delay.kind (time c.args.before.now p) (time c.args.after.now p)) c.loop-point.point)
 
 pub loop-point-preserved : goal.loop-point-preserved
 loop-point-preserved g c =
     let d = g.D.Delay in
-    let time = time_of_point d.kind d.means in
+    let time = label_time d.kind d.means in
     let x = time c.args.before.now in
     let y = time c.args.after.now in
     let n = c.loop-point.point in
