@@ -1,4 +1,4 @@
--- Where rounds begin. Assumes nothing.
+-- Where rounds begin, and rows of labels that are written one by one. Assumes nothing.
 use Rattle.std.proofs.Common.{◌≡◌, ℕ, ◌+◌, ◌*◌, ◌<◌, ◌≤◌, ◌≢◌, true, List, [], ◌∷◌, ◌++◌, map, length, get_or, set, below_more, sym, ap, ◌∙◌, subst, ⊎_elim, mul-le-mul_right, arith}
 use Rattle.std.specs.List.{All, Contains}
 use Rattle.std.proofs.lemmas.List.{map_push, get_or-set_same, get_or-set_other, map-set, length-map}
@@ -58,7 +58,7 @@ module _ {X : Type 0} {k : Kind} (laws : Lawful k) (means : X → Exact k) (n : 
       value = same ∙ e.value;
     }
 
-    module _ (x : ℕ → Exact k) (inside : All (Inside k n) before) (inside_after : All (Inside k n) after) (same : (p : ℕ) → p < n → label_time k means labels p ≡ x p) where
+    module _ (x : ℕ → Exact k) (inside : All (Inside k n) before) (same : (p : ℕ) → p < n → label_time k means labels p ≡ x p) where
       met_before : All (Meets k x) before → (c : ExactBound k) → Contains before c → Meets k (label_time k means labels) c
       met_before met c has =
           let at = All-contains (Inside k n) before c inside has in
@@ -66,9 +66,9 @@ module _ {X : Type 0} {k : Kind} (laws : Lawful k) (means : X → Exact k) (n : 
           rw (same c.left at.left) (subst (λ y. Le k (x c.left) (k.sum y c.delay)) (sym (same c.right at.right)) here)
 
       -- the earliest times before b, whose left point waits
-      pub begun_posted : All (Meets k x) before → ((p : ℕ) → p < n → Earliest k before p (x p)) → ((p : ℕ) → p < n → k.size (x p) ≤ 128 * k.greatest)
-          → label_waits labels b.left ≡ true → Progress k after means n labels labels [] 0
-      begun_posted met earliest near waits =
+      begun_posted : All (Inside k n) after → All (Meets k x) before → ((p : ℕ) → p < n → Earliest k before p (x p))
+          → ((p : ℕ) → p < n → k.size (x p) ≤ 128 * k.greatest) → label_waits labels b.left ≡ true → Progress k after means n labels labels [] 0
+      begun_posted inside_after met earliest near waits =
           progress_none laws means after n inside_after labels []
           (λ i l e. ⊎_elim (met_before met (numbered after i))
           (λ new. absurd (both_ways _ e (subst (λ c. label_waits labels c.left ≡ true) new waits)))
@@ -90,4 +90,4 @@ module _ {X : Type 0} {k : Kind} (laws : Lawful k) (means : X → Exact k) (n : 
       let inside_after =
       rw split at (edges_inside laws n (rows ++ r ∷ []) some (All-push (Fit k n) rows r fit fit_r) (All-push Sound rows r sound sound_r)) in
       rw split
-      (begun_posted laws means n labels (map (exact_of k) rows) (exact_of k r) x inside inside_after (λ p l. same p) times.solution.meets times.earliest near waits)
+      (begun_posted laws means n labels (map (exact_of k) rows) (exact_of k r) x inside (λ p l. same p) inside_after times.solution.meets times.earliest near waits)

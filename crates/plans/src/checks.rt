@@ -48,7 +48,7 @@ fn covers<D: Delay>(row: Row, other: Row, delay: D) -> bool
     row.left == other.left && row.right == other.right && edge_of::<D>(row).delay <= delay
 }
 
-// Whether a bound of the book covers the bound: one pass, and each bound is read at most once.
+// Whether a bound of the book covers the bound, where the kind has the delays of them all: one pass, and each bound is read at most once.
 pub(crate) fn covered<D: Delay, B: Book>(book: &B, bound: Bound) -> bool
     requires book { All (λ r. Unread D.kind r.t r.s → ⊥) (bounds_of (B.meaning book.now)) }
     requires bound { Unread D.kind (row_of bound).t (row_of bound).s → ⊥ }
@@ -87,4 +87,12 @@ pub(crate) fn moved<D: Delay>(before: &[Label<D>], after: &[Label<D>], points: u
         }
     }
     count
+}
+
+// How many of the points have a time that is not zero: with no labels before, each was at zero.
+pub(crate) fn moved_from_zero<D: Delay>(after: &[Label<D>], points: usize) -> usize
+    ensures { result ≡ moved_count D.kind points (λ p. D.kind.zero) (label_time D.kind D.means after.now) }
+{
+    let before: [Label<D>; 0] = [];
+    moved(&before, after, points)
 }

@@ -56,7 +56,8 @@ fn solve<D: Delay, B: Book>(
     requires zero { label_time D.kind D.means labels.old 0 ≡ D.kind.zero }
     requires begun { Progress D.kind (in_question B.meaning D.kind question.now) D.means question.now.points labels.old labels.old [] 0 }
     requires solvable { (posted_rows question.now.posted ≡ []) ⊎ Solvable D.kind question.now.points (book_rows B.meaning question.now) }
-    ensures { Solved D.kind D.means question.now.points (book_rows B.meaning question.now) (posted_rows question.now.posted) (question_rows B.meaning question.now) list.old list.new labels.new result }
+    ensures { Solved D.kind D.means question.now.points (book_rows B.meaning question.now) (posted_rows question.now.posted)
+        (question_rows B.meaning question.now) list.old list.new labels.new result }
 {
     let mut via = [[0; 128]; 128];
     match spread(question, labels, &mut via) {
@@ -105,7 +106,8 @@ pub(crate) fn posted_times<D: Delay, B: Book>(
     requires fit { All (Fit D.kind points) (bounds_of (B.meaning book.now)) }
     requires posted { Fit D.kind points (row_of posted) }
     requires times { Times D.kind points (bounds_of (B.meaning book.now)) (label_time D.kind D.means labels.old) }
-    ensures { Solved D.kind D.means points (bounds_of (B.meaning book.now)) (row_of posted ∷ []) (bounds_of (B.meaning book.now) ++ row_of posted ∷ []) list.old list.new labels.new result }
+    ensures { Solved D.kind D.means points (bounds_of (B.meaning book.now)) (row_of posted ∷ [])
+        (bounds_of (B.meaning book.now) ++ row_of posted ∷ []) list.old list.new labels.new result }
 {
     let question = Question {
         book,
