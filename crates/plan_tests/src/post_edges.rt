@@ -151,10 +151,10 @@ fn check_full<B: Book>(rt: &impl Abort, plan: &mut Plan<Ticks, B>) -> Result<(),
     Ok(())
 }
 
-// Adds so many bounds, the first of which says most.
-fn fill<B: Book>(book: &mut B, places: i64) -> Result<(), Fail> {
-    for n in 0..places {
-        book.add(Bound::new(1, 0, 5 + n, 0)?)?;
+// Adds bounds with the delays from 5 up to another: the first says most.
+fn fill<B: Book>(book: &mut B, end: i64) -> Result<(), Fail> {
+    for t in 5..end {
+        book.add(Bound::new(1, 0, t, 0)?)?;
     }
     Ok(())
 }
@@ -162,12 +162,12 @@ fn fill<B: Book>(book: &mut B, places: i64) -> Result<(), Fail> {
 #[test]
 fn full_tables_and_trials(rt: HostRuntime) -> Result<(), Fail> {
     let mut table = Table::new();
-    fill(&mut table, 1_024)?;
+    fill(&mut table, 1_029)?;
     let mut plan = Plan::open(table, 2, 7);
     check_full(&rt, &mut plan)?;
     assert_eq!(rt; counts(&plan.close()), (0, 1_024, 0));
     let mut trial = Trial::lay(Table::new());
-    fill(&mut trial, 64)?;
+    fill(&mut trial, 69)?;
     let mut plan = Plan::open(trial, 2, 7);
     check_full(&rt, &mut plan)?;
     assert_eq!(rt; counts(&plan.close()), (0, 64, 0));
@@ -219,19 +219,22 @@ fn posts_along_a_path(rt: HostRuntime) -> Result<(), Fail> {
     Ok(())
 }
 
-// A path over all points, posted from its end: each bound moves all points after it.
+// Posts a path over all points from its end: each bound moves all points after it. The time of the last point is told.
+fn post_path(rt: &impl Abort, t: i64) -> Result<(i64, i64), Fail> {
+    let mut plan: TickPlan = settled(128, &[])?;
+    for n in 1..128 {
+        assert_eq!(rt;
+            post(&mut plan, [127 - n, 128 - n, t, 0]),
+            moved(n as usize)
+        );
+    }
+    Ok(time(&plan, 127)?)
+}
+
 #[test]
 fn the_longest_path(rt: HostRuntime) -> Result<(), Fail> {
-    for (t, last) in [(-1, 127), (-500_000_000, 63_500_000_000)] {
-        let mut plan: TickPlan = settled(128, &[])?;
-        for n in 1..128 {
-            assert_eq!(rt;
-                post(&mut plan, [127 - n, 128 - n, t, 0]),
-                moved(n as usize)
-            );
-        }
-        assert_eq!(rt; time(&plan, 127), Ok((last, 0)));
-    }
+    assert_eq!(rt; post_path(&rt, -1)?, (127, 0));
+    assert_eq!(rt; post_path(&rt, -500_000_000)?, (63_500_000_000, 0));
     Ok(())
 }
 

@@ -90,23 +90,34 @@ fn chain_length(answer: Result<usize, PlanFault>) -> Option<usize> {
     (Fault::from(fault).place == length as u64).then_some(length)
 }
 
-// A plan over a book that can't be met: the list begins with the words of a chain, the rest of it is as it was, and so is the plan.
+// Settles a plan over a book that can't be met: it stays unsettled, and the length of the chain is told.
+fn conflict_over<D: Delay>(
+    rt: &impl Abort,
+    points: usize,
+    bounds: &[Numbers],
+    list: &mut [u32],
+) -> Result<usize, Fail> {
+    let mut plan: Plan<D, Table> = Plan::open(table(bounds)?, points, 7);
+    let answer = plan.settle(list);
+    assert_eq!(rt; time(&plan, 0), Err(PlanFault::Unsettled));
+    Ok(chain_length(answer).ok_or(points)?)
+}
+
+// The list begins with the words of a chain that settling met, and the rest of it is as it was.
 fn check_conflict<D: Delay>(
     rt: &impl Abort,
     heap: Global,
     points: usize,
     bounds: &[Numbers],
 ) -> Result<(), Fail> {
-    let mut plan: Plan<D, Table> = Plan::open(table(bounds)?, points, 7);
     let mut list = [7; 130];
-    let length = chain_length(plan.settle(&mut list)).ok_or(points)?;
+    let length = conflict_over::<D>(rt, points, bounds, &mut list)?;
     assert!(rt; length <= points && points <= 128);
     let (words, rest) = list.split_at(length);
     assert!(rt; words.iter().all(|word| *word != 0xC000_0000));
     let row: Vec<Edge<D>> = named(heap, bounds, words)?;
     assert_eq!(rt; is_chain(row.as_slice()), Some(true));
     assert!(rt; rest.iter().all(|word| *word == 7));
-    assert_eq!(rt; time(&plan, 0), Err(PlanFault::Unsettled));
     Ok(())
 }
 
