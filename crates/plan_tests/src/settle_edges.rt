@@ -1,5 +1,5 @@
 // Settling over books that can be met, and over books that can't.
-use crate::setups::{Numbers, bound, settle, table, time};
+use crate::setups::{Numbers, TickPlan, bound, settle, table, time};
 use books::Table;
 use delays::{Delay, Ranked, Ticks, read_pair};
 use faults::Fault;
@@ -28,7 +28,7 @@ fn settled_times(rt: HostRuntime) -> Result<(), Fail> {
         ),
     ];
     for (bounds, count, last) in books {
-        let mut plan: Plan<Ticks, Table> = Plan::open(table(&bounds)?, 3, 7);
+        let mut plan: TickPlan = Plan::open(table(&bounds)?, 3, 7);
         assert_eq!(rt; settle(&mut plan), Ok(count));
         assert_eq!(rt; time(&plan, 2), Ok(last));
     }
@@ -90,34 +90,23 @@ fn chain_length(answer: Result<usize, PlanFault>) -> Option<usize> {
     (Fault::from(fault).place == length as u64).then_some(length)
 }
 
-// Settles a plan over a book that can't be met: it stays unsettled, and the length of the chain is told.
-fn conflict_over<D: Delay>(
-    rt: &impl Abort,
-    points: usize,
-    bounds: &[Numbers],
-    list: &mut [u32],
-) -> Result<usize, Fail> {
-    let mut plan: Plan<D, Table> = Plan::open(table(bounds)?, points, 7);
-    let answer = plan.settle(list);
-    assert_eq!(rt; time(&plan, 0), Err(PlanFault::Unsettled));
-    Ok(chain_length(answer).ok_or(points)?)
-}
-
-// The list begins with the words of a chain that settling met, and the rest of it is as it was.
+// Settles a plan over a book with these bounds, which can't be met: the list begins with the words of a chain, the rest of it is as it was, and
+// the plan stays unsettled.
 fn check_conflict<D: Delay>(
     rt: &impl Abort,
     heap: Global,
-    points: usize,
+    plan: &mut Plan<D, Table>,
     bounds: &[Numbers],
 ) -> Result<(), Fail> {
     let mut list = [7; 130];
-    let length = conflict_over::<D>(rt, points, bounds, &mut list)?;
-    assert!(rt; length <= points && points <= 128);
+    let length = chain_length(plan.settle(&mut list)).ok_or(1u8)?;
+    assert!(rt; length <= 128);
     let (words, rest) = list.split_at(length);
     assert!(rt; words.iter().all(|word| *word != 0xC000_0000));
     let row: Vec<Edge<D>> = named(heap, bounds, words)?;
     assert_eq!(rt; is_chain(row.as_slice()), Some(true));
     assert!(rt; rest.iter().all(|word| *word == 7));
+    assert_eq!(rt; time(plan, 0), Err(PlanFault::Unsettled));
     Ok(())
 }
 
@@ -140,14 +129,12 @@ fn books_that_conflict(rt: HostRuntime) -> Result<(), Fail> {
         ),
     ];
     for (points, bounds) in books {
-        check_conflict::<Ticks>(&rt, rt.alloc(), points, &bounds)?;
+        let mut plan: TickPlan = Plan::open(table(&bounds)?, points, 7);
+        check_conflict(&rt, rt.alloc(), &mut plan, &bounds)?;
     }
-    check_conflict::<Ranked>(
-        &rt,
-        rt.alloc(),
-        2,
-        &[[1, 0, 0, 500_000_000], [0, 1, -1, 500_000_000]],
-    )
+    let bounds = [[1, 0, 0, 500_000_000], [0, 1, -1, 500_000_000]];
+    let mut plan: Plan<Ranked, Table> = Plan::open(table(&bounds)?, 2, 7);
+    check_conflict(&rt, rt.alloc(), &mut plan, &bounds)
 }
 
 // All points on one ring, and all bounds with the greatest delay.
@@ -158,5 +145,6 @@ fn the_longest_ring(rt: HostRuntime) -> Result<(), Fail> {
         bounds.push([n, n + 1, -500_000_000, 0])?;
     }
     bounds.push([127, 0, -500_000_000, 0])?;
-    check_conflict::<Ticks>(&rt, rt.alloc(), 128, bounds.as_slice())
+    let mut plan: TickPlan = Plan::open(table(bounds.as_slice())?, 128, 7);
+    check_conflict(&rt, rt.alloc(), &mut plan, bounds.as_slice())
 }
