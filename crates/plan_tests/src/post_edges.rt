@@ -222,11 +222,9 @@ fn posts_along_a_path(rt: HostRuntime) -> Result<(), Fail> {
 // Posts a path over all points from its end: each bound moves all points after it. The time of the last point is told.
 fn post_path(rt: &impl Abort, t: i64) -> Result<(i64, i64), Fail> {
     let mut plan: TickPlan = settled(128, &[])?;
-    for n in 1..128 {
-        assert_eq!(rt;
-            post(&mut plan, [127 - n, 128 - n, t, 0]),
-            moved(n as usize)
-        );
+    for n in 1..128u8 {
+        let path = [i64::from(127 - n), i64::from(128 - n), t, 0];
+        assert_eq!(rt; post(&mut plan, path), moved(usize::from(n)));
     }
     Ok(time(&plan, 127)?)
 }
