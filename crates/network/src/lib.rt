@@ -12,6 +12,6 @@ pub mod worked;
 pub use chain::is_chain;
 pub use edge::{Edge, floor, in_force};
 pub use link::{Link, NoLink, NoWord, edge_of};
-pub use times::{Mismatch, check_times, meets, time_at};
+pub use times::{Mismatch, check_times, meets};
 pub use walk::{comes_over, sum};
 pub use worked::worked_examples;

@@ -38,7 +38,7 @@ impl fmt::Display for Mismatch {
 impl Error for Mismatch {}
 
 // The time of a point; points past the list are at zero. `unwrap_or_else(D::zero)` gets no proof: its result is a type parameter.
-pub fn time_at<D: Delay>(times: &[D], point: usize) -> D
+fn time_at<D: Delay>(times: &[D], point: usize) -> D
     ensures { D.means result ≡ time_of_point D.kind D.means times.now point }
 {
     times.get(point).copied().unwrap_or(D::zero())

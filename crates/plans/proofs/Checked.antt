@@ -1,7 +1,7 @@
 -- What is left to decide of a settle and of a post after their checks. Assumes nothing.
 use Rattle.std.proofs.Common.{◌≡◌, ◌≢◌, ℕ, ◌<◌, ◌≤◌, true, false, List, [], ◌∷◌, ◌++◌, Ok, Err, Result, ◌⊎◌, refl, sym, ap, ◌∙◌, inl, inr, pos, ⊎_elim, arith}
 use Rattle.std.specs.List.{All}
-use Rattle.std.specs.Result.{MatchResult}
+use Rattle.std.specs.Result.{MatchResult, IsErrAnd}
 use Rattle.std.proofs.lemmas.Bool.{both_ways}
 use Rattle.bounds.specs.declared.row.Row.{Row}
 use Rattle.delays.specs.Kind.{Kind, Exact, Unread}
@@ -10,7 +10,7 @@ use Rattle.delays.specs.declared.fault.KindFault.TheVariants.{Unread as unread}
 use Rattle.plans.specs.declared.fault.PlanFault.{PlanFault}
 use Rattle.plans.specs.declared.fault.PlanFault.TheVariants.{Unsettled, SettledAlready, Points, ListShort, Point, Kind as KindRefuses, Conflict, MarksFull, WrongSlip, Bound, Book}
 use Rattle.books.specs.declared.fault.BookFault.TheVariants.{Full}
-use Rattle.plans.specs.Faults.{fault_of}
+use Rattle.plans.specs.Faults.{of_kind, fault_of}
 use Rattle.plans.specs.Rows.{Fit, Covered, Times, moved_count}
 use Rattle.plans.specs.Misfits.{Misfit, RowsChecked}
 use Rattle.plans.specs.Answers.{Answer, Call, settle, post, settled, covered, moved, refused}
@@ -48,6 +48,26 @@ module _ (k : Kind) (s : State) {length : ℕ} where
       inr (λ short. omega (arith, short, h.3),
       each_bound_fits k s _ s.points a t refl h.4 c)))
 
+  -- the refusals of settle before the bounds are checked
+  pub already_refused : s.settled ≡ true → Refused k s (settle length) SettledAlready
+  already_refused on = record {
+    step = inl (on, (refl, refl));
+    no_conflict = λ c same. no_number 2 same refl (λ never. omega (arith, never));
+  }
+
+  pub points_refused : s.settled ≡ false → (s.points ≡ 0) ⊎ (128 < s.points) → Refused k s (settle length) Points
+  points_refused off out = record {
+    step = inr (λ on. both_ways s.settled off on, inl (out, (refl, refl)));
+    no_conflict = λ c same. no_number 3 same refl (λ never. omega (arith, never));
+  }
+
+  pub short_refused : s.settled ≡ false → (s.points ≡ 0 → ⊥) → s.points ≤ 128 → length < s.points → Refused k s (settle length) ListShort
+  short_refused off some few short = record {
+    step = inr (λ on. both_ways s.settled off on,
+        inr (⊎_elim (λ none. some none) (λ many. omega (arith, many, few)), inl (short, (refl, refl))));
+    no_conflict = λ c same. no_number 4 same refl (λ never. omega (arith, never));
+  }
+
   -- what the checks of settle answer, by that of each bound
   pub bounds_checked : s.settled ≡ false → (s.points ≡ 0 → ⊥) → s.points ≤ 128 → s.points ≤ length → (r : Result (Unit {0}) PlanFault)
       → RowsChecked k s.points (rows s) r → MatchResult r (λ u. Tries k s (settle length) (rows s)) (Refused k s (settle length))
@@ -68,7 +88,7 @@ module _ (k : Kind) (s : State) (b : Row) where
       Check s (s.book.free ≡ 0) (Book Full)
       (λ a t. (old : ℕ → Exact k) × Times k s.points (rows s) old × Becomes (moved (moved_count k s.points old x)) (posting b s) a t)) a t)
 
-module _ (k : Kind) (s : State) {length : ℕ} (b : Row) where
+module _ (k : Kind) (s : State) (length : ℕ) (b : Row) where
   pub post_decided : {bounds : List Row} → Tries k s (post length b) bounds → (a : Answer k) (t : State) → Decides k s b a t → Step k s (post length b) a t
   post_decided h a t d =
       let fit = h.1 in
@@ -78,12 +98,27 @@ module _ (k : Kind) (s : State) {length : ℕ} (b : Row) where
       inr (fit.read,
       inr (λ short. omega (arith, short, h.2), d)))))
 
-  -- what the checks of post answer, by that of the pair and the list's length
-  pub pair_refused : s.settled ≡ true → b.left < s.points → b.right < s.points → (e : KindFault) → Unread k b.t b.s → Refused k s (post length b) (KindRefuses e 0)
-  pair_refused on left right unread none = record {
+  -- the refusals of a post
+  pub left_refused : s.settled ≡ true → s.points ≤ b.left → Refused k s (post length b) (Point 1)
+  left_refused on out = record {
+    step = inr (λ off. both_ways s.settled off on, inl (out, (refl, refl)));
+    no_conflict = λ c same. no_number 5 same refl (λ never. omega (arith, never));
+  }
+
+  pub right_refused : s.settled ≡ true → b.left < s.points → s.points ≤ b.right → Refused k s (post length b) (Point 2)
+  right_refused on left out = record {
+    step = inr (λ off. both_ways s.settled off on, inr (λ far. omega (arith, far, left), inl (out, (refl, refl))));
+    no_conflict = λ c same. no_number 5 same refl (λ never. omega (arith, never));
+  }
+
+  -- the kind's fault is carried whole
+  pub pair_answered : (r : Result (Unit {0}) PlanFault) (f : KindFault) → IsErrAnd r (λ e. e ≡ of_kind f) → s.settled ≡ true → b.left < s.points → b.right < s.points
+      → Unread k b.t b.s → MatchResult r (λ u. Tries k s (post length b) (rows s ++ b ∷ [])) (Refused k s (post length b))
+  pair_answered (Ok u) f none on left right no_delay = absurd none
+  pair_answered (Err e) unread is on left right no_delay = record {
     step = inr (λ off. both_ways s.settled off on,
-        inr (λ out. omega (arith, out, left), inr (λ out. omega (arith, out, right), inl (none, (refl, refl)))));
-    no_conflict = λ c same. no_number 6 same refl (λ never. omega (arith, never));
+        inr (λ out. omega (arith, out, left), inr (λ out. omega (arith, out, right), inl (no_delay, (ap refused is, refl)))));
+    no_conflict = λ c same. no_number 6 (sym is ∙ same) refl (λ never. omega (arith, never));
   }
 
   pub list_refused : s.settled ≡ true → b.left < s.points → b.right < s.points → (Unread k b.t b.s → ⊥) → length < s.points → Refused k s (post length b) ListShort

@@ -1,6 +1,7 @@
 pub mod Least
 pub mod Sounds
 pub mod Checked
+pub mod Solving
 pub mod Agreeing
 pub mod Changing
 pub mod SoundPlans

@@ -11,6 +11,8 @@ use Rattle.bounds.specs.declared.row.Row.{Row}
 use Rattle.delays.specs.Kind.{Kind, Exact}
 use Rattle.network.specs.Edges.{time_of_point}
 use Rattle.books.specs.Meaning.{Meaning, bounds_of, cut_to}
+use Rattle.plans.specs.declared.label.Label.{Label}
+use Rattle.plans.specs.Labels.{label_time}
 use Rattle.plans.specs.declared.mark.Mark.{Mark}
 use Rattle.plans.specs.Rows.{Fit}
 use Rattle.books.specs.Calls.{Cutting}
@@ -18,31 +20,34 @@ use Rattle.plans.specs.States.{State}
 use Rattle.plans.specs.Plans.{counts}
 use Rattle.plans.specs.Soundness.{Least, Restores, Settled, Sound}
 
-module _ {X : Type 0} {k : Kind} {means : X → Exact k} {book : Meaning} {n : ℕ} {times : List X} {marks : List (Mark X)} where
+module _ {X : Type 0} {k : Kind} {means : X → Exact k} {book : Meaning} {n : ℕ} {labels : List (Label X)} {marks : List (Mark X)} where
   -- the bounds of today can be restored
-  restores_today : Settled k means book n times marks → Restores k means book n (record { added = length book.added; times = times })
-  restores_today s = record {
+  restores_today : (times : List X) → ((p : ℕ) → time_of_point k means times p ≡ label_time k means labels p) → Settled k means book n labels marks
+      → Restores k means book n (record { added = length book.added; times = times })
+  restores_today times same s = record {
     added = omega arith;
-    least = rw (take_all (length book.added) book.added (omega arith)) s.least;
+    least = rw (take_all (length book.added) book.added (omega arith)) (subst (Least k n (bounds_of book)) (λ i p. sym (same p) i) s.least);
   }
 
   -- a mark more, of today's bounds and times
-  settled_marked : Settled k means book n times marks → Settled k means book n times (marks ++ record { added = length book.added; times = times } ∷ [])
-  settled_marked s = record {
+  settled_marked : (times : List X) → ((p : ℕ) → time_of_point k means times p ≡ label_time k means labels p) → Settled k means book n labels marks
+      → Settled k means book n labels (marks ++ record { added = length book.added; times = times } ∷ [])
+  settled_marked times eq s = record {
     some = s.some;
     few = s.few;
     fit = s.fit;
     least = s.least;
-    restores = All-push (Restores k means book n) marks _ s.restores (restores_today s);
+    restores = All-push (Restores k means book n) marks _ s.restores (restores_today times eq s);
     rising = all_pairs_push (λ x y. x.added ≤ y.added) marks _ s.rising (λ i d h. (s.restores i d h).added);
   }
 
-  pub sound_marked : {settled : Bool} {after : List (Mark X)} {added : ℕ} → settled ≡ true → length marks ≢ 8 → added ≡ length book.added
-      → after ≡ marks ++ record { added = added; times = times } ∷ [] → Sound k means book n settled times marks → Sound k means book n settled times after
-  sound_marked {settled = settled} {added = added} on room e same h = record {
+  pub sound_marked : {settled : Bool} {after : List (Mark X)} {added : ℕ} (times : List X)
+      → ((p : ℕ) → time_of_point k means times p ≡ label_time k means labels p) → settled ≡ true → length marks ≢ 8 → added ≡ length book.added
+      → after ≡ marks ++ record { added = added; times = times } ∷ [] → Sound k means book n settled labels marks → Sound k means book n settled labels after
+  sound_marked {settled = settled} {added = added} times eq on room e same h = record {
     marks_few = omega (arith, h.marks_few, ap length same, length-append marks (record { added = added; times = times } ∷ []));
     unsettled = λ off. absurd (both_ways settled off on);
-    settled_times = λ o. rw (same, e) (settled_marked (h.settled_times o));
+    settled_times = λ o. rw (same, e) (settled_marked times eq (h.settled_times o));
   }
 
 -- nothing is left of no marks
@@ -54,9 +59,9 @@ none_left {rest = rest} r e none = no_length rest (omega (arith, length-append r
     no_length (x ∷ xs) h = absurd (omega arith)
 
 -- the youngest mark is taken away
-module _ {X : Type 0} {k : Kind} {means : X → Exact k} {book : Meaning} {n : ℕ} {times : List X} {rest : List (Mark X)} where
-  settled_popped : {marks : List (Mark X)} (r : Option (Mark X)) → marks ≡ rest ++ option_to_list r → Settled k means book n times marks
-      → Settled k means book n times rest
+module _ {X : Type 0} {k : Kind} {means : X → Exact k} {book : Meaning} {n : ℕ} {labels : List (Label X)} {rest : List (Mark X)} where
+  settled_popped : {marks : List (Mark X)} (r : Option (Mark X)) → marks ≡ rest ++ option_to_list r → Settled k means book n labels marks
+      → Settled k means book n labels rest
   settled_popped r e s = record {
     some = s.some;
     few = s.few;
@@ -68,7 +73,7 @@ module _ {X : Type 0} {k : Kind} {means : X → Exact k} {book : Meaning} {n : �
   }
 
   pub sound_popped : {marks : List (Mark X)} {settled : Bool} (r : Option (Mark X)) → marks ≡ rest ++ option_to_list r
-      → Sound k means book n settled times marks → Sound k means book n settled times rest
+      → Sound k means book n settled labels marks → Sound k means book n settled labels rest
   sound_popped r e h = record {
     marks_few = omega (arith, h.marks_few, ap length e, length-append rest (option_to_list r));
     unsettled = λ off. none_left r e (h.unsettled off);
@@ -76,15 +81,16 @@ module _ {X : Type 0} {k : Kind} {means : X → Exact k} {book : Meaning} {n : �
   }
 
   -- and what it noted is restored
-  settled_restored : (m : Mark X) → Settled k means book n times (rest ++ m ∷ []) → Settled k means (cut_to book m.added) n m.times rest
-  settled_restored m s =
+  settled_restored : (m : Mark X) (back : List (Label X)) → ((p : ℕ) → label_time k means back p ≡ time_of_point k means m.times p)
+      → Settled k means book n labels (rest ++ m ∷ []) → Settled k means (cut_to book m.added) n back rest
+  settled_restored m back eq s =
       let youngest : Restores k means book n m = rw (get_or-append_seam rest m [] m) at (s.restores (length rest) m (omega (arith, length-append rest (m ∷ [])))) in
       let others = settled_popped (Some m) refl s in
       record {
         some = s.some;
         few = s.few;
         fit = rw (take-append-add book.fixed book.added m.added) at (All-take (Fit k n) (length book.fixed + m.added) (bounds_of book) s.fit);
-        least = youngest.least;
+        least = subst (Least k n (book.fixed ++ take m.added book.added)) (λ i p. sym (eq p) i) youngest.least;
         restores = λ i d h.
             let at : Restores k means book n (get_or rest i d) = others.restores i d h in
             let under : (get_or rest i d).added ≤ m.added =
@@ -96,13 +102,14 @@ module _ {X : Type 0} {k : Kind} {means : X → Exact k} {book : Meaning} {n : �
         rising = others.rising;
       }
 
-  pub sound_restored : {marks : List (Mark X)} {settled : Bool} {after : Meaning} (m : Mark X) → marks ≡ rest ++ m ∷ []
-      → after ≡ cut_to book m.added → Sound k means book n settled times marks → Sound k means after n settled m.times rest
-  sound_restored {settled = settled} {after = after} m e same h =
-      subst (λ b. Sound k means b n settled m.times rest) (sym same) (record {
+  pub sound_restored : {marks : List (Mark X)} {settled : Bool} {after : Meaning} (m : Mark X) (back : List (Label X))
+      → ((p : ℕ) → label_time k means back p ≡ time_of_point k means m.times p) → marks ≡ rest ++ m ∷ []
+      → after ≡ cut_to book m.added → Sound k means book n settled labels marks → Sound k means after n settled back rest
+  sound_restored {settled = settled} {after = after} m back eq e same h =
+      subst (λ b. Sound k means b n settled back rest) (sym same) (record {
         marks_few = (sound_popped (Some m) e h).marks_few;
         unsettled = (sound_popped (Some m) e h).unsettled;
-        settled_times = λ on. settled_restored m (subst (Settled k means book n times) e (h.settled_times on));
+        settled_times = λ on. settled_restored m back eq (subst (Settled k means book n labels) e (h.settled_times on));
       })
 
 -- the youngest mark is the one at the present depth: its count, and the counts of the others
@@ -126,8 +133,8 @@ cut_is meaning cuts true h few = h
 cut_is meaning cuts false h few = absurd (omega (arith, h.0, few))
 
 -- the youngest mark of a sound plan noted no more than the added bounds
-pub youngest_added : {X : Type 0} {k : Kind} {means : X → Exact k} {book : Meaning} {n : ℕ} {settled : Bool} {times : List X} {marks : List (Mark X)}
-    (rest : List (Mark X)) (m : Mark X) → marks ≡ rest ++ m ∷ [] → settled ≡ true → Sound k means book n settled times marks → m.added ≤ length book.added
+pub youngest_added : {X : Type 0} {k : Kind} {means : X → Exact k} {book : Meaning} {n : ℕ} {settled : Bool} {labels : List (Label X)} {marks : List (Mark X)}
+    (rest : List (Mark X)) (m : Mark X) → marks ≡ rest ++ m ∷ [] → settled ≡ true → Sound k means book n settled labels marks → m.added ≤ length book.added
 youngest_added {k = k} {means = means} {book = book} {n = n} {marks = marks} rest m e on h =
     (rw (e, get_or-append_seam rest m [] m) at ((h.settled_times on).restores (length rest) m (omega (arith, ap length e, length-append rest (m ∷ []))))).added
 

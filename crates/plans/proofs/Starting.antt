@@ -1,9 +1,9 @@
 -- Where rounds begin, and rows of labels that are written one by one. Assumes nothing.
 use Rattle.std.proofs.Common.{◌≡◌, ℕ, ◌+◌, ◌*◌, ◌<◌, ◌≤◌, ◌≢◌, true, List, [], ◌∷◌, ◌++◌, map, length, get_or, set, below_more, sym, ap, ◌∙◌, subst, ⊎_elim, mul-le-mul_right, arith}
 use Rattle.std.specs.List.{All, Contains}
-use Rattle.std.proofs.lemmas.List.{map_push, get_or-set_same, get_or-set_other, map-set, length-map}
+use Rattle.std.proofs.lemmas.List.{map_push, get_or-set_same, get_or-set_other, map-set, length-map, get_or_past}
 use Rattle.std.proofs.lemmas.List.Elements.{All-contains, All-weaker, All-push, Contains-get_or, Contains-append_left, Contains-append_right, Contains-append_cases}
-use Rattle.std.proofs.lemmas.Bool.{both_ways}
+use Rattle.std.proofs.lemmas.Bool.{both_ways, cases_lt}
 use Rattle.delays.specs.Kind.{Kind, Exact, Lawful}
 use Rattle.network.specs.Bounds.{ExactBound, Bounds, floor_of, floors, bounds_in_force, Inside}
 use Rattle.network.specs.Assignments.{Le, Meets}
@@ -31,6 +31,11 @@ filled_more f d v i xs a h e before =
     below_more _ _
     (λ q l. let other : q ≢ i = omega arith in ap (λ ys. get_or ys q d) (map-set f xs i a) ∙ get_or-set_other (map f xs) i q (f a) d other ∙ before q l)
     (ap (λ ys. get_or ys i d) (map-set f xs i a) ∙ get_or-set_same (map f xs) i (f a) d low ∙ e)
+
+-- past the list it is d; so f of the elements is v everywhere, where v is d from there on
+pub filled_all : {A B : Type 0} (f : A → B) (d : B) (v : ℕ → B) (xs : List A) → Filled f d v (length xs) xs → ((q : ℕ) → length xs ≤ q → v q ≡ d)
+    → (q : ℕ) → get_or (map f xs) q d ≡ v q
+filled_all f d v xs filled past q = ⊎_elim (filled q) (λ h. get_or_past (map f xs) q d (rw (length-map xs f) h) ∙ sym (past q h)) (cases_lt q (length xs))
 
 -- no round has noted anything yet
 pub progress_any : {X : Type 0} {k : Kind} (laws : Lawful k) (means : X → Exact k) (edges : Bounds k) (n : ℕ) (inside : All (Inside k n) edges)

@@ -6,6 +6,8 @@ use Rattle.network.specs.Assignments.{Le, Solution}
 use Rattle.network.specs.Edges.{time_of_point}
 use Rattle.books.specs.Meaning.{Meaning, bounds_of}
 use Rattle.plans.specs.declared.mark.Mark.{Mark}
+use Rattle.plans.specs.declared.label.Label.{Label}
+use Rattle.plans.specs.Labels.{label_time}
 use Rattle.plans.specs.Rows.{force, Fit}
 
 -- x meets the bounds in force, and every other assignment that does gives each of the n points at least its time
@@ -21,16 +23,16 @@ module _ {X : Type 0} (k : Kind) (means : X → Exact k) where
 
   -- a settled plan: it has from 1 to 128 points, each bound of the book is one that it can take, the times are the least, each mark
   -- can be restored, and no later mark noted fewer bounds
-  pub record Settled (book : Meaning) (n : ℕ) (times : List X) (marks : List (Mark X)) : Type 0 where
+  pub record Settled (book : Meaning) (n : ℕ) (labels : List (Label X)) (marks : List (Mark X)) : Type 0 where
     pub some : 0 < n
     pub few : n ≤ 128
     pub fit : All (Fit k n) (bounds_of book)
-    pub least : Least k n (bounds_of book) (time_of_point k means times)
+    pub least : Least k n (bounds_of book) (label_time k means labels)
     pub restores : All (Restores book n) marks
     pub rising : AllPairs (λ x y. x.added ≤ y.added) marks
 
   -- at most eight marks are open, and none in a plan that is not settled
-  pub record Sound (book : Meaning) (n : ℕ) (settled : Bool) (times : List X) (marks : List (Mark X)) : Type 0 where
+  pub record Sound (book : Meaning) (n : ℕ) (settled : Bool) (labels : List (Label X)) (marks : List (Mark X)) : Type 0 where
     pub marks_few : length marks ≤ 8
     pub unsettled : settled ≡ false → marks ≡ []
-    pub settled_times : settled ≡ true → Settled book n times marks
+    pub settled_times : settled ≡ true → Settled book n labels marks

@@ -1,3 +1,5 @@
+use delays::Delay;
+
 // What a relaxation knows of a point.
 #[derive(Clone, Copy)]
 pub(crate) struct Label<D> {
@@ -6,4 +8,13 @@ pub(crate) struct Label<D> {
     pub via: usize,
     // whether it got its time in the round before
     pub waits: bool,
+}
+
+// The label of a point at zero that does not wait.
+pub(crate) fn at_zero<D: Delay>() -> Label<D> {
+    Label {
+        time: D::zero(),
+        via: 0,
+        waits: false,
+    }
 }

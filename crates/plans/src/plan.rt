@@ -1,5 +1,6 @@
 ghost use Rattle.plans.specs.Soundness.{Sound};
 
+use crate::label::Label;
 use crate::mark::Mark;
 use arrayvec::ArrayVec;
 use books::Book;
@@ -15,9 +16,9 @@ pub struct Plan<D: Delay, B: Book> {
     points: usize,
     number: u32,
     settled: bool,
-    // the earliest times, where the plan is settled
-    times: [D; 128],
+    // what the last relaxation knew of each point; where the plan is settled, its earliest time
+    labels: [Label<D>; 128],
     // the oldest first
     marks: ArrayVec<Mark<D>, 8>,
-    ghost sound: { Sound D.kind D.means (B.meaning book) points settled times marks.items },
+    ghost sound: { Sound D.kind D.means (B.meaning book) points settled labels marks.items },
 }

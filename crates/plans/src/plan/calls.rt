@@ -4,14 +4,16 @@ ghost use Rattle.plans.specs.Answers.{read, mark, keep, back};
 ghost use Rattle.plans.specs.States.{State, opened, noted};
 ghost use Rattle.plans.specs.Steps.{Step, Present};
 
+use crate::checks::time_at;
 use crate::fault::PlanFault;
+use crate::label::at_zero;
 use crate::mark::Mark;
 use crate::plan::Plan;
 use crate::slip::Slip;
+use crate::times::{read_times, write_times};
 use arrayvec::ArrayVec;
 use books::Book;
 use delays::Delay;
-use network::time_at;
 
 impl<D: Delay, B: Book> Plan<D, B> {
     ghost use Rattle.plans.specs.Plans.{state_of, read_answer, mark_answer, close_answer, CutOrSame};
@@ -26,7 +28,7 @@ impl<D: Delay, B: Book> Plan<D, B> {
             points,
             number,
             settled: false,
-            times: [D::zero(); 128],
+            labels: [at_zero(); 128],
             marks: ArrayVec::new(),
         }
     }
@@ -40,7 +42,7 @@ impl<D: Delay, B: Book> Plan<D, B> {
             points: _,
             number: _,
             settled: _,
-            times: _,
+            labels: _,
             marks: _,
         } = self;
         book
@@ -64,7 +66,7 @@ impl<D: Delay, B: Book> Plan<D, B> {
         if point >= self.points {
             return Err(PlanFault::Point { place: 1 });
         }
-        Ok(time_at(&self.times, point))
+        Ok(time_at(&self.labels, point))
     }
 
     // Opens a mark and hands out its slip.
@@ -77,9 +79,11 @@ impl<D: Delay, B: Book> Plan<D, B> {
         if self.marks.len() == 8 {
             return Err(PlanFault::MarksFull);
         }
+        let mut times = [D::zero(); 128];
+        write_times(&self.labels, &mut times);
         self.marks.push(Mark {
             added: self.book.added_count(),
-            times: self.times,
+            times,
         });
         Ok(Slip::new(self.number, self.marks.len()))
     }
@@ -120,7 +124,7 @@ impl<D: Delay, B: Book> Plan<D, B> {
         present?;
         if let Some(mark) = self.marks.pop() {
             self.book.cut(mark.added);
-            self.times = mark.times;
+            read_times(&mark.times, &mut self.labels);
         }
         Ok(())
     }

@@ -7,21 +7,15 @@ ghost use Rattle.plans.specs.States.{State, rows};
 ghost use Rattle.plans.specs.Steps.{Step};
 ghost use Rattle.plans.specs.Runs.{Tries};
 
-use crate::checks::{check_pair, covered, first_misfit, moved};
+use crate::checks::{check_pair, covered, first_misfit, moved, moved_from_zero};
 use crate::fault::PlanFault;
+use crate::label::at_zero;
 use crate::plan::Plan;
 use crate::posted::Posted;
-use crate::times::{posted_times, settled_times};
+use crate::solve::{posted_times, settled_times};
 use books::Book;
-use bounds::{Bound, Row};
+use bounds::Bound;
 use delays::Delay;
-
-// A conflict, with the length of its chain.
-fn conflict(length: usize) -> PlanFault
-    ensures { result ≡ PlanFault.Conflict length }
-{
-    PlanFault::Conflict { length }
-}
 
 impl<D: Delay, B: Book> Plan<D, B> {
     ghost use Rattle.plans.specs.Plans.{state_of, settle_answer, post_answer, Refused, ChainOrSame, AddedOrSame};
@@ -52,20 +46,21 @@ impl<D: Delay, B: Book> Plan<D, B> {
         ensures list { ChainOrSame D.kind self.old.points (rows (state_of self.old)) [] list.old list.new result }
     {
         self.check_settle(list.len())?;
-        let mut times = [D::zero(); 128];
-        settled_times(&self.book, self.points, &mut times, list).map_err(conflict)?;
-        self.times = times;
+        if let Err(length) = settled_times::<D, B>(&self.book, self.points, &mut self.labels, list) {
+            return Err(PlanFault::Conflict { length });
+        }
         self.settled = true;
-        Ok(moved(&[], &times, self.points))
+        Ok(moved_from_zero::<D>(&self.labels, self.points))
     }
 
     // The checks of post before that for a cover.
-    fn check_post(&self, row: Row, length: usize) -> Result<(), PlanFault>
+    fn check_post(&self, bound: Bound, length: usize) -> Result<(), PlanFault>
         ensures { MatchResult result
-            (λ u. Tries D.kind (state_of self.now) (post length row) (rows (state_of self.now) ++ row ∷ []))
-            (Refused D.kind (state_of self.now) (post length row)) }
+            (λ u. Tries D.kind (state_of self.now) (post length (row_of bound)) (rows (state_of self.now) ++ row_of bound ∷ []))
+            (Refused D.kind (state_of self.now) (post length (row_of bound))) }
     {
         self.check_settled()?;
+        let row = bound.row();
         if usize::from(row.left) >= self.points {
             return Err(PlanFault::Point { place: 1 });
         }
@@ -86,15 +81,18 @@ impl<D: Delay, B: Book> Plan<D, B> {
         ensures book { AddedOrSame B.meaning B.adds self.old.book (row_of bound) self.new.book result }
         ensures list { ChainOrSame D.kind self.old.points (rows (state_of self.old)) (row_of bound ∷ []) list.old list.new result }
     {
-        self.check_post(bound.row(), list.len())?;
+        self.check_post(bound, list.len())?;
         if covered::<D, B>(&self.book, bound) {
             return Ok(Posted::Covered);
         }
-        let mut times = self.times;
-        posted_times(&self.book, bound, self.points, &mut times, list).map_err(conflict)?;
+        let mut labels = [at_zero(); 128];
+        labels.copy_from_slice(&self.labels);
+        if let Err(length) = posted_times::<D, B>(&self.book, bound, self.points, &mut labels, list) {
+            return Err(PlanFault::Conflict { length });
+        }
         self.book.add(bound)?;
-        let count = moved(&self.times, &times, self.points);
-        self.times = times;
+        let count = moved::<D>(&self.labels, &labels, self.points);
+        self.labels.copy_from_slice(&labels);
         Ok(Posted::Moved { count })
     }
 }

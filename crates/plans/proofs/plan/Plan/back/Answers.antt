@@ -13,7 +13,7 @@ pub invariant_of-self : goal.invariant_of-self
 invariant_of-self g c =
     let split = (c.in-Some.ensures {u = tt}).items in
     let few = youngest_added c.pop.new.self.items c.in-Some.mark split (c.in_ok-check_settled.ensures {u = tt}) c.args.self.now.sound in
-    record { sound = sound_restored c.in-Some.mark split (cut_is g.B.Book.meaning g.B.Book.cuts c.cut.result c.cut.ensures few).1 c.args.self.now.sound }
+    record { sound = sound_restored c.in-Some.mark c.read_times.new.labels c.read_times.ensures.times split (cut_is g.B.Book.meaning g.B.Book.cuts c.cut.result c.cut.ensures few).1 c.args.self.now.sound }
 
 -- src/plan/calls.rt:112:5
 pub returns-in-Some-clause-step : goal.returns-in-Some-clause-step
