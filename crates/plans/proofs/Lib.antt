@@ -1,5 +1,6 @@
 pub mod Least
 pub mod Sounds
+pub mod Checked
 pub mod Agreeing
 pub mod Changing
 pub mod SoundPlans
@@ -13,3 +14,12 @@ pub mod Misfitting
 pub mod Numbering
 pub mod Passing
 pub mod Tallies
+pub mod Smallness
+pub mod Rounding
+pub mod Stories
+pub mod Progressing
+pub mod Waiting
+pub mod Spreading
+pub mod Wording
+pub mod Trailing
+pub mod Heading

@@ -12,3 +12,4 @@ pub mod Soundness
 pub mod Plans
 pub mod Misfits
 pub mod Solved
+pub mod Trails

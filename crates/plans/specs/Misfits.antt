@@ -2,10 +2,16 @@
 use Rattle.std.specs.Prelude.{◌≡◌, ℕ, ◌<◌, ◌≤◌, ◌⊎◌, List, length, take, Ok, Err, Result, slice_index_or, All}
 use Rattle.bounds.specs.declared.row.Row.{Row}
 use Rattle.delays.specs.Kind.{Kind, Unread}
+use Rattle.delays.specs.declared.fault.KindFault.{KindFault}
 use Rattle.delays.specs.declared.fault.KindFault.TheVariants.{Unread as unread}
 use Rattle.plans.specs.declared.fault.PlanFault.{PlanFault}
 use Rattle.plans.specs.declared.fault.PlanFault.TheVariants.{Unsettled, SettledAlready, Points, ListShort, Point, Kind as KindRefuses, Conflict, MarksFull, WrongSlip, Bound, Book}
 use Rattle.plans.specs.Rows.{Fit}
+
+-- the kind has a delay with the parts of the row, or none
+abbrev pub PairChecked : (k : Kind) → Row → Result (Unit {0}) KindFault → Type 0
+PairChecked k r (Ok _) = Unread k r.t r.s → ⊥
+PairChecked k r (Err e) = Unread k r.t r.s
 
 module _ (k : Kind) (n : ℕ) where
   -- a point of the row is not below n

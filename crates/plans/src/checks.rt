@@ -5,14 +5,22 @@ ghost use Rattle.books.specs.Meaning.{bounds_of};
 ghost use Rattle.delays.specs.Kind.{Unread};
 ghost use Rattle.network.specs.Edges.{time_of_point};
 ghost use Rattle.plans.specs.Rows.{Covers, Covered, moved_count};
-ghost use Rattle.plans.specs.Misfits.{RowChecked, RowsChecked};
+ghost use Rattle.plans.specs.Misfits.{PairChecked, RowChecked, RowsChecked};
 
 use crate::fault::PlanFault;
 use crate::question::edges::edge_of;
 use books::Book;
 use bounds::{Bound, Row};
-use delays::{Delay, read_pair};
+use delays::{Delay, KindFault, read_pair};
 use network::time_at;
+
+// Whether the kind has a delay with the row's parts.
+pub(crate) fn check_pair<D: Delay>(row: Row) -> Result<(), KindFault>
+    ensures { PairChecked D.kind row result }
+{
+    read_pair::<D>(i64::from(row.t), i64::from(row.s))?;
+    Ok(())
+}
 
 // Whether the row with the number fits: first its points, then its parts.
 fn check_row<D: Delay>(row: Row, points: usize, place: usize) -> Result<(), PlanFault>
@@ -21,8 +29,8 @@ fn check_row<D: Delay>(row: Row, points: usize, place: usize) -> Result<(), Plan
     if points <= usize::from(row.left) || points <= usize::from(row.right) {
         return Err(PlanFault::Point { place });
     }
-    match read_pair::<D>(i64::from(row.t), i64::from(row.s)) {
-        Ok(_) => Ok(()),
+    match check_pair::<D>(row) {
+        Ok(()) => Ok(()),
         Err(fault) => Err(PlanFault::Kind { fault, place }),
     }
 }

@@ -11,6 +11,9 @@ pub mod posted;
 mod question;
 pub mod slip;
 mod solve;
+mod round;
+mod spread;
+mod trace;
 
 pub use fault::PlanFault;
 pub use plan::Plan;

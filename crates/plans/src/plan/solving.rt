@@ -7,14 +7,14 @@ ghost use Rattle.plans.specs.States.{State, rows};
 ghost use Rattle.plans.specs.Steps.{Step};
 ghost use Rattle.plans.specs.Runs.{Tries};
 
-use crate::checks::{covered, first_misfit, moved};
+use crate::checks::{check_pair, covered, first_misfit, moved};
 use crate::fault::PlanFault;
 use crate::plan::Plan;
 use crate::posted::Posted;
 use crate::solve::{posted_times, settled_times};
 use books::Book;
 use bounds::{Bound, Row};
-use delays::{Delay, read_pair};
+use delays::Delay;
 
 // A conflict, with the length of its chain.
 fn conflict(length: usize) -> PlanFault
@@ -72,7 +72,7 @@ impl<D: Delay, B: Book> Plan<D, B> {
         if usize::from(row.right) >= self.points {
             return Err(PlanFault::Point { place: 2 });
         }
-        read_pair::<D>(i64::from(row.t), i64::from(row.s))?;
+        check_pair::<D>(row)?;
         if length < self.points {
             return Err(PlanFault::ListShort);
         }

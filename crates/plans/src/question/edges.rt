@@ -1,8 +1,9 @@
 // The bounds in question by number.
-ghost use Rattle.std.specs.Prelude.{◌≡◌, ◌+◌, ◌<◌, ◌≤◌, length, map, All};
+ghost use Rattle.std.specs.Prelude.{◌≡◌, ◌+◌, ◌<◌, ◌≤◌, ◌^◌, ◌⊎◌, [], length, map, All};
 ghost use Rattle.std.specs.List.{slice_get};
 ghost use Rattle.delays.specs.Kind.{Kind, Unread};
 ghost use Rattle.network.specs.Edges.{bound_of};
+ghost use Rattle.network.specs.Links.{low_bits};
 ghost use Rattle.plans.specs.Rows.{Fit, exact_of};
 ghost use Rattle.plans.specs.Conflicts.{NamesOf};
 ghost use Rattle.plans.specs.Questions.{book_rows, posted_rows, question_rows, in_question, numbered};
@@ -52,6 +53,17 @@ impl<'a, B: Book> Question<'a, B> {
         }
     }
 
+    // The left point of the bound in force with the number. A floor leaves point 0.
+    pub(crate) fn left(&self, number: usize) -> usize
+        requires number { number < length (question_rows B.meaning self.now) + self.now.points }
+        ensures { (k : Kind) → result ≡ (numbered (in_question B.meaning k self.now) number).left }
+    {
+        match self.row(number) {
+            Some(row) => row.left as usize,
+            None => 0,
+        }
+    }
+
     // The bound in force with the number.
     pub(crate) fn edge<D: Delay>(&self, number: usize) -> Edge<D>
         requires fit { All (Fit D.kind self.now.points) (question_rows B.meaning self.now) }
@@ -68,7 +80,10 @@ impl<'a, B: Book> Question<'a, B> {
     pub(crate) fn link(&self, number: usize) -> Link
         requires few { self.now.points ≤ 128 }
         requires number { number < length (question_rows B.meaning self.now) + self.now.points }
-        ensures { (k : Kind) → NamesOf k (map (exact_of k) (book_rows B.meaning self.now)) (map (exact_of k) (posted_rows self.now.posted)) result (numbered (in_question B.meaning k self.now) number) }
+        ensures names { (k : Kind) → NamesOf k (map (exact_of k) (book_rows B.meaning self.now)) (map (exact_of k) (posted_rows self.now.posted)) result
+            (numbered (in_question B.meaning k self.now) number) }
+        ensures posted { number ≡ length (book_rows B.meaning self.now) → (posted_rows self.now.posted ≡ []) ⊎ (result ≡ Link.Posted) }
+        ensures room { low_bits result < 2 ^ 30 }
     {
         let book = self.book.count();
         let rows = self.rows();

@@ -9,4 +9,5 @@ returns-in-None g c =
     let q = c.args.self.now in
     let rows = question_rows g.B.Book.meaning q in
     let none : None ≡ slice_get rows c.args.number = c.in-None.ensures in
-    c.floor.ensures ∙ rw c.rows.ensures (sym (numbered_floor g.D.Delay.kind q.points rows c.args.number (none_past rows c.args.number (sym none)) c.requires.number))
+    let past = none_past rows c.args.number (sym none) in
+    c.floor.ensures ∙ rw c.rows.ensures (sym (numbered_floor g.D.Delay.kind q.points rows c.args.number past c.requires.number))

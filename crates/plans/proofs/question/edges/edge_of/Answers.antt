@@ -16,4 +16,5 @@ returns g c =
     let t : to_z w64 (of_z w64 c.from.result) ≡ c.args.row.t = search (rules, to_z-of_z) in
     let s : to_z w64 (of_z w64 c.from-2.result) ≡ c.args.row.s = search (rules, to_z-of_z) in
     let parts = rw (c.unwrap.ensures, t, s) at c.read.ensures in
-    ap (λ x. record { left = row.left; right = row.right; delay = x }) (value_of g.met.D.Delay.lawful (d.means c.unwrap.result) row.t row.s (g.met.D.Delay.within c.unwrap.result) parts)
+    ap (λ x. record { left = row.left; right = row.right; delay = x })
+    (value_of g.met.D.Delay.lawful (d.means c.unwrap.result) row.t row.s (g.met.D.Delay.within c.unwrap.result) parts)

@@ -1,0 +1,98 @@
+-- What is left to decide of a settle and of a post after their checks. Assumes nothing.
+use Rattle.std.proofs.Common.{◌≡◌, ◌≢◌, ℕ, ◌<◌, ◌≤◌, true, false, List, [], ◌∷◌, ◌++◌, Ok, Err, Result, ◌⊎◌, refl, sym, ap, ◌∙◌, inl, inr, pos, ⊎_elim, arith}
+use Rattle.std.specs.List.{All}
+use Rattle.std.specs.Result.{MatchResult}
+use Rattle.std.proofs.lemmas.Bool.{both_ways}
+use Rattle.bounds.specs.declared.row.Row.{Row}
+use Rattle.delays.specs.Kind.{Kind, Exact, Unread}
+use Rattle.delays.specs.declared.fault.KindFault.{KindFault}
+use Rattle.delays.specs.declared.fault.KindFault.TheVariants.{Unread as unread}
+use Rattle.plans.specs.declared.fault.PlanFault.{PlanFault}
+use Rattle.plans.specs.declared.fault.PlanFault.TheVariants.{Unsettled, SettledAlready, Points, ListShort, Point, Kind as KindRefuses, Conflict, MarksFull, WrongSlip, Bound, Book}
+use Rattle.books.specs.declared.fault.BookFault.TheVariants.{Full}
+use Rattle.plans.specs.Faults.{fault_of}
+use Rattle.plans.specs.Rows.{Fit, Covered, Times, moved_count}
+use Rattle.plans.specs.Misfits.{Misfit, RowsChecked}
+use Rattle.plans.specs.Answers.{Answer, Call, settle, post, settled, covered, moved, refused}
+use Rattle.plans.specs.States.{State, rows, settling, posting}
+use Rattle.plans.specs.Steps.{Ending, Becomes, Check, Conflicts, Step}
+use Rattle.plans.specs.Runs.{Tries}
+use Rattle.plans.specs.Plans.{Refused, ChainOrSame}
+use Rattle.plans.proofs.Misfitting.{each_bound_fits, each_bound_refused}
+
+-- a fault with another number is no conflict
+no_number : {e : PlanFault} {c : ℕ} (m : ℕ) → e ≡ Conflict c → (fault_of e).number ≡ m → (m ≡ 8 → ⊥) → ⊥
+no_number m same number other = other (sym number ∙ ap (λ f. (fault_of f).number) same)
+
+-- the check of each bound refuses with no conflict
+misfit_no_conflict : (k : Kind) (n i : ℕ) (r : Row) (e : PlanFault) → Misfit k n i r e → (c : ℕ) → e ≢ Conflict c
+misfit_no_conflict k n i r (Conflict length) h c same = h
+misfit_no_conflict k n i r Unsettled h c same = h
+misfit_no_conflict k n i r SettledAlready h c same = h
+misfit_no_conflict k n i r Points h c same = h
+misfit_no_conflict k n i r ListShort h c same = h
+misfit_no_conflict k n i r MarksFull h c same = h
+misfit_no_conflict k n i r WrongSlip h c same = h
+misfit_no_conflict k n i r (Bound e) h c same = h
+misfit_no_conflict k n i r (Book e) h c same = h
+misfit_no_conflict k n i r (Point place) h c same = no_number 5 same refl (omega arith)
+misfit_no_conflict k n i r (KindRefuses unread place) h c same = no_number 6 same refl (omega arith)
+
+module _ (k : Kind) (s : State) {length : ℕ} where
+  -- a settle that passes its checks is decided by whether there is a conflict
+  pub settle_decided : {bounds : List Row} → Tries k s (settle length) bounds → (a : Answer k) (t : State)
+      → Conflicts k s (rows s) (λ x. Becomes (settled (moved_count k s.points (λ p. k.zero) x)) (settling s)) a t → Step k s (settle length) a t
+  settle_decided h a t c =
+      inr (λ on. both_ways s.settled h.0 on,
+      inr (⊎_elim (λ none. omega (arith, none, h.1)) (λ many. omega (arith, many, h.2)),
+      inr (λ short. omega (arith, short, h.3),
+      each_bound_fits k s _ s.points a t refl h.4 c)))
+
+  -- what the checks of settle answer, by that of each bound
+  pub bounds_checked : s.settled ≡ false → (s.points ≡ 0 → ⊥) → s.points ≤ 128 → s.points ≤ length → (r : Result (Unit {0}) PlanFault)
+      → RowsChecked k s.points (rows s) r → MatchResult r (λ u. Tries k s (settle length) (rows s)) (Refused k s (settle length))
+  bounds_checked off some few long (Ok u) fit = (off, omega (arith, some), few, long, fit, refl)
+  bounds_checked off some few long (Err e) h = record {
+    step = inr (λ on. both_ways s.settled off on,
+        inr (⊎_elim (λ none. some none) (λ many. omega (arith, many, few)),
+        inr (λ short. omega (arith, short, long),
+        each_bound_refused k s _ s.points e (refused e) s refl h refl refl)));
+    no_conflict = misfit_no_conflict k s.points h.0 _ e (h.1.here (record { left = 0; right = 0; t = pos 0; s = pos 0 }));
+  }
+
+module _ (k : Kind) (s : State) (b : Row) where
+  -- what decides a post that passes its checks: a cover, or else whether there is a conflict and a free place
+  abbrev pub Decides : Ending k
+  Decides a t = (Covered k (rows s) b × Becomes covered s a t) ⊎ ((Covered k (rows s) b → ⊥)
+      × Conflicts k s (rows s ++ b ∷ []) (λ x.
+      Check s (s.book.free ≡ 0) (Book Full)
+      (λ a t. (old : ℕ → Exact k) × Times k s.points (rows s) old × Becomes (moved (moved_count k s.points old x)) (posting b s) a t)) a t)
+
+module _ (k : Kind) (s : State) {length : ℕ} (b : Row) where
+  pub post_decided : {bounds : List Row} → Tries k s (post length b) bounds → (a : Answer k) (t : State) → Decides k s b a t → Step k s (post length b) a t
+  post_decided h a t d =
+      let fit = h.1 in
+      inr (λ off. both_ways s.settled off h.0,
+      inr (λ out. omega (arith, out, fit.left),
+      inr (λ out. omega (arith, out, fit.right),
+      inr (fit.read,
+      inr (λ short. omega (arith, short, h.2), d)))))
+
+  -- what the checks of post answer, by that of the pair and the list's length
+  pub pair_refused : s.settled ≡ true → b.left < s.points → b.right < s.points → (e : KindFault) → Unread k b.t b.s → Refused k s (post length b) (KindRefuses e 0)
+  pair_refused on left right unread none = record {
+    step = inr (λ off. both_ways s.settled off on,
+        inr (λ out. omega (arith, out, left), inr (λ out. omega (arith, out, right), inl (none, (refl, refl)))));
+    no_conflict = λ c same. no_number 6 same refl (λ never. omega (arith, never));
+  }
+
+  pub list_refused : s.settled ≡ true → b.left < s.points → b.right < s.points → (Unread k b.t b.s → ⊥) → length < s.points → Refused k s (post length b) ListShort
+  list_refused on left right read short = record {
+    step = inr (λ off. both_ways s.settled off on,
+        inr (λ out. omega (arith, out, left), inr (λ out. omega (arith, out, right), inr (read, inl (short, (refl, refl))))));
+    no_conflict = λ c same. no_number 4 same refl (λ never. omega (arith, never));
+  }
+
+  pub post_tries : s.settled ≡ true → b.left < s.points → b.right < s.points → (Unread k b.t b.s → ⊥) → s.points ≤ length
+      → Tries k s (post length b) (rows s ++ b ∷ [])
+  post_tries on left right read long = (on, record { left = left; right = right; read = read }, long, refl)
