@@ -14,6 +14,7 @@ const SPAN: u32 = 10_000_000;
 pub(crate) const PLAY: u32 = SPAN / 2;
 
 // A linear congruence, the same at each run.
+#[derive(Drop)]
 pub(crate) struct Draws {
     state: u32,
 }
@@ -68,7 +69,7 @@ fn bound(draws: &mut Draws, points: u8, after: u16) -> Result<Bound, BoundFault>
 }
 
 // The words of all bounds, and a place more for each round while a word book has places.
-pub(crate) fn words(heap: Global, asked: &Asked) -> anyhow::Result<Vec<u32>> {
+pub(crate) fn make_words(heap: Global, asked: &Asked) -> anyhow::Result<Vec<u32>> {
     let mut draws = Draws::new(1);
     let mut words = Vec::new(heap);
     for after in (0..asked.bounds).rev() {

@@ -14,7 +14,7 @@ mod rounds;
 mod tally;
 
 use asked::Asked;
-use rounds::{checksum, rounds};
+use rounds::{checksum, go_through};
 use tally::Tally;
 
 // What a run has to tell at its end.
@@ -26,7 +26,7 @@ struct Ending {
 }
 
 // What the arguments ask for.
-fn asked(rt: &HostRuntime) -> anyhow::Result<Asked> {
+fn arguments(rt: &HostRuntime) -> anyhow::Result<Asked> {
     let words: Vec<String> = env::args(rt)?.skip(1).collect(rt.alloc())?;
     match words.as_slice() {
         [] => Asked::new("2000", "128", "20", "all"),
@@ -44,7 +44,7 @@ fn run(asked: &Asked, words: &mut [u32], list: &mut [u32]) -> Result<Ending, Pla
         1,
     );
     let settled = plan.settle(list)?;
-    let tally = rounds(asked, &mut plan, list)?;
+    let tally = go_through(asked, &mut plan, list)?;
     let checksum = checksum(&plan, asked.points)?;
     let bounds = plan.close().count();
     Ok(Ending {
@@ -57,8 +57,8 @@ fn run(asked: &Asked, words: &mut [u32], list: &mut [u32]) -> Result<Ending, Pla
 
 fn work(rt: &HostRuntime) -> anyhow::Result<()> {
     let heap = rt.alloc();
-    let asked = asked(rt)?;
-    let mut words = load::words(heap, &asked)?;
+    let asked = arguments(rt)?;
+    let mut words = load::make_words(heap, &asked)?;
     let mut list = vec![in heap; 0u32; usize::from(asked.points)]?;
     let Ending {
         settled,

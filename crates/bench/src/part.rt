@@ -12,7 +12,7 @@ pub(crate) enum Part {
     // posts a bound that moves nothing
     Still,
     // posts a bound that moves so many points, the last ones
-    Moving { count: u8 },
+    Moving { count: u32 },
     // posts a bound that can't be met
     Conflict,
 }
@@ -39,7 +39,7 @@ impl FromStr for Part {
             "covered" => Ok(Part::Covered),
             "still" => Ok(Part::Still),
             "conflict" => Ok(Part::Conflict),
-            _ => match name.parse::<u8>() {
+            _ => match name.parse::<u32>() {
                 Ok(count) => Ok(Part::Moving { count }),
                 Err(_) => Err(UnknownPart),
             },

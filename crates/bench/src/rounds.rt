@@ -16,7 +16,9 @@ fn part(asked: &Asked, draws: &mut Draws, round: u32) -> Part {
         (None, 1) => Part::Covered,
         (None, 2) => Part::Still,
         (None, 3) => Part::Moving {
-            count: 1 + (draws.below(127) as u8) % 127,
+            count: draws
+                .below(u32::from(asked.points.saturating_sub(1)))
+                .saturating_add(1),
         },
         (None, _) => Part::Conflict,
     }
@@ -37,9 +39,9 @@ fn still(draws: &mut Draws, points: u8) -> Result<Bound, BoundFault> {
 }
 
 // A point of the path comes later than before, and all that follow it on the path with it.
-fn moving(draws: &mut Draws, points: u8, count: u8) -> Result<Bound, BoundFault> {
-    let point = points.saturating_sub(count);
-    met(0, u32::from(point), draws.below(PLAY))
+fn moving(draws: &mut Draws, points: u8, count: u32) -> Result<Bound, BoundFault> {
+    let point = u32::from(points).saturating_sub(count);
+    met(0, point, draws.below(PLAY))
 }
 
 // The last point comes earlier than it can.
@@ -89,7 +91,7 @@ fn mark_and_back<B: Book>(plan: &mut Plan<Ticks, B>) -> Result<(), PlanFault> {
 }
 
 // All rounds. Where they go through every part, each eighth keeps what it posted.
-pub(crate) fn rounds<B: Book>(
+pub(crate) fn go_through<B: Book>(
     asked: &Asked,
     plan: &mut Plan<Ticks, B>,
     list: &mut [u32],
