@@ -13,6 +13,7 @@ pub mod AllRuns
 pub mod Misfitting
 pub mod Numbering
 pub mod Passing
+pub mod Starting
 pub mod Tallies
 pub mod Smallness
 pub mod Rounding

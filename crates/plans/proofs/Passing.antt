@@ -1,15 +1,15 @@
--- A pass over the rows of a book, and the first row that does not fit. Assumes nothing.
-use Rattle.std.proofs.Common.{◌≡◌, ℕ, ◌+◌, ◌<◌, ◌≤◌, length, get_or, take, Some, None, sym, subst, ⊎_elim, pos}
+-- A pass over the rows of a book. Assumes nothing.
+use Rattle.std.proofs.Common.{◌≡◌, ℕ, ◌+◌, ◌<◌, length, get_or, take, Some, None, sym, subst}
 use Rattle.std.specs.List.{All, Contains}
-use Rattle.std.proofs.lemmas.Option.{slice_get_within, get_or_from_slice_get, slice_get-get_or}
+use Rattle.std.proofs.lemmas.Option.{slice_get_within, get_or_from_slice_get}
 use Rattle.std.proofs.lemmas.List.{take_all}
 use Rattle.std.proofs.lemmas.List.Elements.{All-more, Contains-get_or}
-use Rattle.std.proofs.lemmas.Bool.{cases_lt}
 use Rattle.bounds.specs.declared.row.Row.{Row}
 use Rattle.bounds.specs.declared.bound.Bound.{Bound}
 use Rattle.bounds.specs.Making.{row_of}
 use Rattle.books.specs.Meaning.{Meaning, bounds_of}
 use Rattle.books.specs.Calls.{Reads}
+use Rattle.plans.proofs.Numbering.{none_past}
 
 module _ (m : Meaning) (i : ℕ) where
   -- a number that reads a bound is below the count, and the bound's row has it
@@ -27,12 +27,6 @@ module _ (m : Meaning) (i : ℕ) where
     pub read_more : (P : Row → Type 0) → All P (take i (bounds_of m)) → P (row_of b) → All P (take (i + 1) (bounds_of m))
     read_more P before here = All-more P (bounds_of m) i (row_of b) read_within before (subst P (sym (read_is (row_of b))) here)
 
-  -- a number that reads none is past them all
-  pub none_past : Reads m i None → length (bounds_of m) ≤ i
-  none_past read = ⊎_elim (λ l. absurd (by l)) (λ h. h) (cases_lt i (length (bounds_of m)))
-    where
-      by : i < length (bounds_of m) → ⊥
-      by l = let d : Row = record { left = 0; right = 0; t = pos 0; s = pos 0 } in let e = slice_get-get_or (bounds_of m) i d l in cc (read, e)
-
+  -- where a number reads none, what is so of the rows before it is so of them all
   pub none_all : (P : Row → Type 0) → Reads m i None → All P (take i (bounds_of m)) → All P (bounds_of m)
-  none_all P read all = subst (All P) (take_all i (bounds_of m) (none_past read)) all
+  none_all P read all = subst (All P) (take_all i (bounds_of m) (none_past (bounds_of m) i (sym read))) all

@@ -23,9 +23,9 @@ module _ {k : Kind} (laws : Lawful k) where
       by (inl a) (inr b) = rw (a, b) refl
       by (inr a) e = rw a refl
 
-  -- one point more, whose times before and after are u and v
-  pub moved_more : (x y : ℕ → Exact k) (n : ℕ) (u v : Exact k) (one : Bool) → u ≡ x n → v ≡ y n → Decides one (u ≡ v)
-      → moved_count k (n + 1) x y ≡ moved_count k n x y + cond (not one) 1 0
-  moved_more x y n u v one before after d =
-      let same : not one ≡ differ k (x n) (y n) = differ_decided u v one d ∙ ap (λ z. differ k z v) before ∙ ap (differ k (x n)) after in
-      ap (λ m. moved_count k m x y) (add-one n) ∙ ap (λ b. moved_count k n x y + cond b 1 0) (sym same)
+  -- one point more, whose times before and after are u and v, and are told to be two or not
+  pub moved_more : (x y : ℕ → Exact k) (n : ℕ) (u v : Exact k) (one told two : Bool) (count next : ℕ) → u ≡ x n → v ≡ y n → Decides one (u ≡ v)
+      → told ≡ not one → told ≡ two → count ≡ moved_count k n x y → next ≡ count + cond two 1 0 → next ≡ moved_count k (n + 1) x y
+  moved_more x y n u v one told two count next before after d e f so_far more =
+      let same : two ≡ differ k (x n) (y n) = sym f ∙ e ∙ differ_decided u v one d ∙ ap (λ z. differ k z v) before ∙ ap (differ k (x n)) after in
+      more ∙ ap (λ m. m + cond two 1 0) so_far ∙ ap (λ b. moved_count k n x y + cond b 1 0) same ∙ sym (ap (λ m. moved_count k m x y) (add-one n))

@@ -3,24 +3,16 @@ ghost use Rattle.std.specs.Prelude.{◌≡◌, Decides, All};
 ghost use Rattle.bounds.specs.Making.{row_of};
 ghost use Rattle.books.specs.Meaning.{bounds_of};
 ghost use Rattle.delays.specs.Kind.{Unread};
-ghost use Rattle.network.specs.Edges.{time_of_point};
 ghost use Rattle.plans.specs.Rows.{Covers, Covered, moved_count};
-ghost use Rattle.plans.specs.Misfits.{PairChecked, RowChecked, RowsChecked};
+ghost use Rattle.plans.specs.Labels.{label_time};
+ghost use Rattle.plans.specs.Misfits.{RowChecked, RowsChecked};
 
 use crate::fault::PlanFault;
+use crate::label::Label;
 use crate::question::edges::edge_of;
 use books::Book;
 use bounds::{Bound, Row};
-use delays::{Delay, KindFault, read_pair};
-use network::time_at;
-
-// Whether the kind has a delay with the row's parts.
-pub(crate) fn check_pair<D: Delay>(row: Row) -> Result<(), KindFault>
-    ensures { PairChecked D.kind row result }
-{
-    read_pair::<D>(i64::from(row.t), i64::from(row.s))?;
-    Ok(())
-}
+use delays::{Delay, read_pair};
 
 // Whether the row with the number fits: first its points, then its parts.
 fn check_row<D: Delay>(row: Row, points: usize, place: usize) -> Result<(), PlanFault>
@@ -29,8 +21,8 @@ fn check_row<D: Delay>(row: Row, points: usize, place: usize) -> Result<(), Plan
     if points <= usize::from(row.left) || points <= usize::from(row.right) {
         return Err(PlanFault::Point { place });
     }
-    match check_pair::<D>(row) {
-        Ok(()) => Ok(()),
+    match read_pair::<D>(i64::from(row.t), i64::from(row.s)) {
+        Ok(_) => Ok(()),
         Err(fault) => Err(PlanFault::Kind { fault, place }),
     }
 }
@@ -56,7 +48,7 @@ fn covers<D: Delay>(row: Row, other: Row, delay: D) -> bool
     row.left == other.left && row.right == other.right && edge_of::<D>(row).delay <= delay
 }
 
-// Whether a bound of the book covers the bound: one pass, and each bound is read at most once.
+// Whether a bound of the book covers the bound, where the kind has the delays of them all: one pass, and each bound is read at most once.
 pub(crate) fn covered<D: Delay, B: Book>(book: &B, bound: Bound) -> bool
     requires book { All (λ r. Unread D.kind r.t r.s → ⊥) (bounds_of (B.meaning book.now)) }
     requires bound { Unread D.kind (row_of bound).t (row_of bound).s → ⊥ }
@@ -74,9 +66,19 @@ pub(crate) fn covered<D: Delay, B: Book>(book: &B, bound: Bound) -> bool
     false
 }
 
-// How many of the points have one time before and another after. Points past a list are at zero.
-pub(crate) fn moved<D: Delay>(before: &[D], after: &[D], points: usize) -> usize
-    ensures { result ≡ moved_count D.kind points (time_of_point D.kind D.means before.now) (time_of_point D.kind D.means after.now) }
+// The time of a point; points past the labels are at zero.
+fn time_at<D: Delay>(labels: &[Label<D>], point: usize) -> D
+    ensures { D.means result ≡ label_time D.kind D.means labels.now point }
+{
+    match labels.get(point) {
+        Some(label) => label.time,
+        None => D::zero(),
+    }
+}
+
+// How many of the points have one time before and another after. Points past the labels are at zero.
+pub(crate) fn moved<D: Delay>(before: &[Label<D>], after: &[Label<D>], points: usize) -> usize
+    ensures { result ≡ moved_count D.kind points (label_time D.kind D.means before.now) (label_time D.kind D.means after.now) }
 {
     let mut count = 0;
     for point in 0..points {
@@ -85,4 +87,12 @@ pub(crate) fn moved<D: Delay>(before: &[D], after: &[D], points: usize) -> usize
         }
     }
     count
+}
+
+// How many of the points have a time that is not zero: with no labels before, each was at zero.
+pub(crate) fn moved_from_zero<D: Delay>(after: &[Label<D>], points: usize) -> usize
+    ensures { result ≡ moved_count D.kind points (λ p. D.kind.zero) (label_time D.kind D.means after.now) }
+{
+    let before: [Label<D>; 0] = [];
+    moved(&before, after, points)
 }

@@ -9,10 +9,11 @@ mod mark;
 pub mod plan;
 pub mod posted;
 mod question;
+mod round;
 pub mod slip;
 mod solve;
-mod round;
 mod spread;
+mod times;
 mod trace;
 
 pub use fault::PlanFault;

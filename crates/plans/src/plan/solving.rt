@@ -11,7 +11,7 @@ use crate::checks::{check_pair, covered, first_misfit, moved};
 use crate::fault::PlanFault;
 use crate::plan::Plan;
 use crate::posted::Posted;
-use crate::solve::{posted_times, settled_times};
+use crate::times::{posted_times, settled_times};
 use books::Book;
 use bounds::{Bound, Row};
 use delays::Delay;
@@ -91,7 +91,7 @@ impl<D: Delay, B: Book> Plan<D, B> {
             return Ok(Posted::Covered);
         }
         let mut times = self.times;
-        posted_times(&self.book, bound, self.points, &self.times, &mut times, list).map_err(conflict)?;
+        posted_times(&self.book, bound, self.points, &mut times, list).map_err(conflict)?;
         self.book.add(bound)?;
         let count = moved(&self.times, &times, self.points);
         self.times = times;
