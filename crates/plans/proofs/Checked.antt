@@ -1,6 +1,5 @@
 -- What is left to decide of a settle and of a post after their checks. Assumes nothing.
 use Rattle.std.proofs.Common.{◌≡◌, ◌≢◌, ℕ, ◌<◌, ◌≤◌, true, false, List, [], ◌∷◌, ◌++◌, Ok, Err, Result, ◌⊎◌, refl, sym, ap, ◌∙◌, inl, inr, pos, ⊎_elim, arith}
-use Rattle.std.specs.List.{All}
 use Rattle.std.specs.Result.{MatchResult, IsErrAnd}
 use Rattle.std.proofs.lemmas.Bool.{both_ways}
 use Rattle.bounds.specs.declared.row.Row.{Row}
@@ -11,13 +10,13 @@ use Rattle.plans.specs.declared.fault.PlanFault.{PlanFault}
 use Rattle.plans.specs.declared.fault.PlanFault.TheVariants.{Unsettled, SettledAlready, Points, ListShort, Point, Kind as KindRefuses, Conflict, MarksFull, WrongSlip, Bound, Book}
 use Rattle.books.specs.declared.fault.BookFault.TheVariants.{Full}
 use Rattle.plans.specs.Faults.{of_kind, fault_of}
-use Rattle.plans.specs.Rows.{Fit, Covered, Times, moved_count}
+use Rattle.plans.specs.Rows.{Covered, Times, moved_count}
 use Rattle.plans.specs.Misfits.{Misfit, RowsChecked}
-use Rattle.plans.specs.Answers.{Answer, Call, settle, post, settled, covered, moved, refused}
+use Rattle.plans.specs.Answers.{Answer, settle, post, settled, covered, moved, refused}
 use Rattle.plans.specs.States.{State, rows, settling, posting}
 use Rattle.plans.specs.Steps.{Ending, Becomes, Check, Conflicts, Step}
 use Rattle.plans.specs.Runs.{Tries}
-use Rattle.plans.specs.Plans.{Refused, ChainOrSame}
+use Rattle.plans.specs.Plans.{Refused}
 use Rattle.plans.proofs.Misfitting.{each_bound_fits, each_bound_refused}
 
 -- a fault with another number is no conflict
@@ -43,10 +42,16 @@ module _ (k : Kind) (s : State) {length : ℕ} where
   pub settle_decided : {bounds : List Row} → Tries k s (settle length) bounds → (a : Answer k) (t : State)
       → Conflicts k s (rows s) (λ x. Becomes (settled (moved_count k s.points (λ p. k.zero) x)) (settling s)) a t → Step k s (settle length) a t
   settle_decided h a t c =
-      inr (λ on. both_ways s.settled h.0 on,
-      inr (⊎_elim (λ none. omega (arith, none, h.1)) (λ many. omega (arith, many, h.2)),
-      inr (λ short. omega (arith, short, h.3),
-      each_bound_fits k s _ s.points a t refl h.4 c)))
+      inr (
+        λ on. both_ways s.settled h.0 on,
+        inr (
+          ⊎_elim (λ none. omega (arith, none, h.1)) (λ many. omega (arith, many, h.2)),
+          inr (
+            λ short. omega (arith, short, h.3),
+            each_bound_fits k s _ s.points a t refl h.4 c,
+          ),
+        ),
+      )
 
   -- the refusals of settle before the bounds are checked
   pub already_refused : s.settled ≡ true → Refused k s (settle length) SettledAlready
@@ -63,8 +68,10 @@ module _ (k : Kind) (s : State) {length : ℕ} where
 
   pub short_refused : s.settled ≡ false → (s.points ≡ 0 → ⊥) → s.points ≤ 128 → length < s.points → Refused k s (settle length) ListShort
   short_refused off some few short = record {
-    step = inr (λ on. both_ways s.settled off on,
-        inr (⊎_elim (λ none. some none) (λ many. omega (arith, many, few)), inl (short, (refl, refl))));
+    step = inr (
+      λ on. both_ways s.settled off on,
+      inr (⊎_elim (λ none. some none) (λ many. omega (arith, many, few)), inl (short, (refl, refl))),
+    );
     no_conflict = λ c same. no_number 4 same refl (λ never. omega (arith, never));
   }
 
@@ -73,10 +80,16 @@ module _ (k : Kind) (s : State) {length : ℕ} where
       → RowsChecked k s.points (rows s) r → MatchResult r (λ u. Tries k s (settle length) (rows s)) (Refused k s (settle length))
   bounds_checked off some few long (Ok u) fit = (off, omega (arith, some), few, long, fit, refl)
   bounds_checked off some few long (Err e) h = record {
-    step = inr (λ on. both_ways s.settled off on,
-        inr (⊎_elim (λ none. some none) (λ many. omega (arith, many, few)),
-        inr (λ short. omega (arith, short, long),
-        each_bound_refused k s _ s.points e (refused e) s refl h refl refl)));
+    step = inr (
+      λ on. both_ways s.settled off on,
+      inr (
+        ⊎_elim (λ none. some none) (λ many. omega (arith, many, few)),
+        inr (
+          λ short. omega (arith, short, long),
+          each_bound_refused k s _ s.points e (refused e) s refl h refl refl,
+        ),
+      ),
+    );
     no_conflict = misfit_no_conflict k s.points h.0 _ e (h.1.here (record { left = 0; right = 0; t = pos 0; s = pos 0 }));
   }
 
@@ -92,11 +105,19 @@ module _ (k : Kind) (s : State) (length : ℕ) (b : Row) where
   pub post_decided : {bounds : List Row} → Tries k s (post length b) bounds → (a : Answer k) (t : State) → Decides k s b a t → Step k s (post length b) a t
   post_decided h a t d =
       let fit = h.1 in
-      inr (λ off. both_ways s.settled off h.0,
-      inr (λ out. omega (arith, out, fit.left),
-      inr (λ out. omega (arith, out, fit.right),
-      inr (fit.read,
-      inr (λ short. omega (arith, short, h.2), d)))))
+      inr (
+        λ off. both_ways s.settled off h.0,
+        inr (
+          λ out. omega (arith, out, fit.left),
+          inr (
+            λ out. omega (arith, out, fit.right),
+            inr (
+              fit.read,
+              inr (λ short. omega (arith, short, h.2), d),
+            ),
+          ),
+        ),
+      )
 
   -- the refusals of a post
   pub left_refused : s.settled ≡ true → s.points ≤ b.left → Refused k s (post length b) (Point 1)
@@ -116,15 +137,19 @@ module _ (k : Kind) (s : State) (length : ℕ) (b : Row) where
       → Unread k b.t b.s → MatchResult r (λ u. Tries k s (post length b) (rows s ++ b ∷ [])) (Refused k s (post length b))
   pair_answered (Ok u) f none on left right no_delay = absurd none
   pair_answered (Err e) unread is on left right no_delay = record {
-    step = inr (λ off. both_ways s.settled off on,
-        inr (λ out. omega (arith, out, left), inr (λ out. omega (arith, out, right), inl (no_delay, (ap refused is, refl)))));
+    step = inr (
+      λ off. both_ways s.settled off on,
+      inr (λ out. omega (arith, out, left), inr (λ out. omega (arith, out, right), inl (no_delay, (ap refused is, refl)))),
+    );
     no_conflict = λ c same. no_number 6 (sym is ∙ same) refl (λ never. omega (arith, never));
   }
 
   pub list_refused : s.settled ≡ true → b.left < s.points → b.right < s.points → (Unread k b.t b.s → ⊥) → length < s.points → Refused k s (post length b) ListShort
   list_refused on left right read short = record {
-    step = inr (λ off. both_ways s.settled off on,
-        inr (λ out. omega (arith, out, left), inr (λ out. omega (arith, out, right), inr (read, inl (short, (refl, refl))))));
+    step = inr (
+      λ off. both_ways s.settled off on,
+      inr (λ out. omega (arith, out, left), inr (λ out. omega (arith, out, right), inr (read, inl (short, (refl, refl))))),
+    );
     no_conflict = λ c same. no_number 4 same refl (λ never. omega (arith, never));
   }
 

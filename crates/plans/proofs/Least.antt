@@ -6,7 +6,6 @@ use Rattle.std.proofs.lemmas.Bool.{both_ways}
 use Rattle.bounds.specs.declared.row.Row.{Row}
 use Rattle.delays.specs.Kind.{Kind, Exact, Lawful}
 use Rattle.network.specs.Bounds.{Inside}
-use Rattle.network.specs.Assignments.{Solution}
 use Rattle.network.specs.Earliest.{Earliest}
 use Rattle.network.proofs.Theorems.{chain_theory, earliest_theory, consistency}
 use Rattle.plans.specs.Rows.{exact_of, force, Fit, Times}
@@ -43,5 +42,15 @@ module _ {k : Kind} (laws : Lawful k) (n : ℕ) (rows : List Row) (x : ℕ → E
 pub read_step : {k : Kind} → Lawful k → {s : State} {x : ℕ → Exact k} {p : ℕ} → s.settled ≡ true → 0 < s.points → All (Fit k s.points) (rows s) → Least k s.points (rows s) x
     → p < s.points → (y : Exact k) → y ≡ x p → Step k s (read p) (time y) s
 read_step {k = k} laws {s = s} {x = x} {p = p} on some fit l h y e =
-    inr (λ off. both_ways s.settled off on, inr (λ past. omega (arith, past, h), (y, subst (Earliest k (force k s.points (rows s)) p) (sym e)
-    ((least_times laws s.points (rows s) x some fit l).earliest p h), (refl, refl))))
+    inr (
+      λ off. both_ways s.settled off on,
+      inr (
+        λ past. omega (arith, past, h),
+        (
+          y,
+          subst (Earliest k (force k s.points (rows s)) p) (sym e)
+              ((least_times laws s.points (rows s) x some fit l).earliest p h),
+          (refl, refl),
+        ),
+      ),
+    )

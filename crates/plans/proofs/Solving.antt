@@ -1,6 +1,6 @@
 -- What settle and post come to, once their checks are passed. Assumes nothing.
-use Rattle.std.proofs.Common.{◌≡◌, ◌≢◌, ℕ, ◌<◌, ◌≤◌, Bool, true, false, List, [], ◌∷◌, ◌++◌, length, take, Ok, Err, Result, refl, sym, ap, ◌∙◌, subst, inl, inr, arith, append-nil, append_assoc, length-append}
-use Rattle.std.specs.List.{All, AllPairs}
+use Rattle.std.proofs.Common.{◌≡◌, ◌≢◌, ℕ, ◌<◌, ◌≤◌, Bool, true, List, [], ◌∷◌, ◌++◌, length, Ok, Err, Result, refl, sym, ap, ◌∙◌, subst, inl, inr, arith, append-nil, append_assoc, length-append}
+use Rattle.std.specs.List.{All}
 use Rattle.std.specs.Result.{IsErrAnd}
 use Rattle.std.proofs.lemmas.Bool.{both_ways}
 use Rattle.std.proofs.lemmas.List.{take-append-le}
@@ -18,13 +18,13 @@ use Rattle.plans.specs.Faults.{of_book}
 use Rattle.plans.specs.declared.label.Label.{Label}
 use Rattle.plans.specs.declared.mark.Mark.{Mark}
 use Rattle.plans.specs.Labels.{label_time}
-use Rattle.plans.specs.Rows.{force, Fit, Covered, Times, moved_count}
+use Rattle.plans.specs.Rows.{Fit, Covered, Times, moved_count}
 use Rattle.plans.specs.Conflicts.{ChainWritten}
 use Rattle.plans.specs.Answers.{Call, settle, post, settled as settled_answer, covered, moved, refused}
 use Rattle.plans.specs.States.{State, rows, settling, posting}
 use Rattle.plans.specs.Steps.{Step}
 use Rattle.plans.specs.Runs.{Tries}
-use Rattle.plans.specs.Soundness.{Least, Restores, Settled, Sound}
+use Rattle.plans.specs.Soundness.{Restores, Settled, Sound}
 use Rattle.plans.specs.Plans.{Refused, post_answer, ChainOrSame, AddedOrSame}
 use Rattle.plans.proofs.Least.{times_least}
 use Rattle.plans.proofs.Checked.{settle_decided, post_decided}

@@ -1,5 +1,5 @@
 -- What a plan is between two calls, what its calls answer, and what becomes of its book and of the caller's list. Assumes nothing.
-use Rattle.std.specs.Prelude.{◌≡◌, ◌≢◌, ℕ, true, List, [], ◌∷◌, map, Ok, Err, Result}
+use Rattle.std.specs.Prelude.{◌≡◌, ◌≢◌, ℕ, true, List, map, Ok, Err, Result}
 use Rattle.std.specs.declared.cmp.Ord as ord
 use Rattle.std.specs.declared.cmp.PartialEq as part_eq
 use Rattle.std.specs.declared.cmp.PartialOrd as part_ord

@@ -4,7 +4,6 @@
 mod checks;
 pub mod fault;
 mod label;
-pub mod law;
 mod mark;
 pub mod plan;
 pub mod posted;

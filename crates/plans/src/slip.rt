@@ -26,6 +26,18 @@ impl Slip {
         Slip { number, depth }
     }
 
+    pub fn number(&self) -> u32
+        ensures { result ≡ self.now.number }
+    {
+        self.number
+    }
+
+    pub fn depth(&self) -> usize
+        ensures { result ≡ self.now.depth }
+    {
+        self.depth
+    }
+
     // Takes the slip apart, so that its drop does not run.
     pub(crate) fn spent(self) -> (u32, usize)
         ensures number { result.0 ≡ self.number }

@@ -1,8 +1,9 @@
 // The calls on a plan.
 ghost use Rattle.std.specs.Prelude.{◌≡◌, true, false, MatchResult};
 ghost use Rattle.plans.specs.Answers.{read, mark, keep, back};
-ghost use Rattle.plans.specs.States.{State, opened, noted};
+ghost use Rattle.plans.specs.States.{State, opened, depth, noted};
 ghost use Rattle.plans.specs.Steps.{Step, Present};
+ghost use Rattle.plans.specs.Runs.{RunsStand};
 
 use crate::checks::time_at;
 use crate::fault::PlanFault;
@@ -18,10 +19,12 @@ use delays::Delay;
 impl<D: Delay, B: Book> Plan<D, B> {
     ghost use Rattle.plans.specs.Plans.{state_of, read_answer, mark_answer, close_answer, CutOrSame};
 
-    // A new plan over a book: unsettled, with no mark open. It never refuses.
+    // A new plan over a book: unsettled, with no mark open. It never refuses. Whatever calls it then goes through, the law of all runs holds of
+    // them.
     pub fn open(book: B, points: usize, number: u32) -> Plan<D, B>
         ensures book { result.book ≡ book }
         ensures opened { state_of result ≡ opened (B.meaning book) points number }
+        ensures law { RunsStand D.kind (state_of result) }
     {
         Plan {
             book,
@@ -46,6 +49,40 @@ impl<D: Delay, B: Book> Plan<D, B> {
             marks: _,
         } = self;
         book
+    }
+
+    // The book under the plan.
+    pub fn book(&self) -> &B
+        ensures { result.now ≡ self.now.book }
+    {
+        &self.book
+    }
+
+    // The number of points.
+    pub fn points(&self) -> usize
+        ensures { result ≡ (state_of self.now).points }
+    {
+        self.points
+    }
+
+    // The plan number.
+    pub fn number(&self) -> u32
+        ensures { result ≡ (state_of self.now).number }
+    {
+        self.number
+    }
+
+    pub fn is_settled(&self) -> bool
+        ensures { result ≡ (state_of self.now).settled }
+    {
+        self.settled
+    }
+
+    // How many marks are open.
+    pub fn depth(&self) -> usize
+        ensures { result ≡ depth (state_of self.now) }
+    {
+        self.marks.len()
     }
 
     pub(crate) fn check_settled(&self) -> Result<(), PlanFault>

@@ -46,7 +46,12 @@ impl<D: Delay, B: Book> Plan<D, B> {
         ensures list { ChainOrSame D.kind self.old.points (rows (state_of self.old)) [] list.old list.new result }
     {
         self.check_settle(list.len())?;
-        if let Err(length) = settled_times::<D, B>(&self.book, self.points, &mut self.labels, list) {
+        if let Err(length) = settled_times::<D, B>(
+            &self.book,
+            self.points,
+            &mut self.labels,
+            list,
+        ) {
             return Err(PlanFault::Conflict { length });
         }
         self.settled = true;
@@ -87,7 +92,13 @@ impl<D: Delay, B: Book> Plan<D, B> {
         }
         let mut labels = [at_zero(); 128];
         labels.copy_from_slice(&self.labels);
-        if let Err(length) = posted_times::<D, B>(&self.book, bound, self.points, &mut labels, list) {
+        if let Err(length) = posted_times::<D, B>(
+            &self.book,
+            bound,
+            self.points,
+            &mut labels,
+            list,
+        ) {
             return Err(PlanFault::Conflict { length });
         }
         self.book.add(bound)?;

@@ -1,7 +1,7 @@
-use Rattle.std.proofs.Common.{map, ◌∙◌, ap, sym, subst, arith}
+use Rattle.std.proofs.Common.{map, ◌∙◌, ap, sym, arith}
 use Rattle.std.proofs.lemmas.List.{get_or-map, get_or_past, length-map}
 use Rattle.network.specs.Edges.{time_of_point}
-use Rattle.plans.proofs.Starting.{Filled, filled_more, filled_all}
+use Rattle.plans.proofs.Starting.{filled_more, filled_all}
 use Rattle.plans.proofs.times.read_times.Goals as goal
 
 pub loop-p-preserved : goal.loop-p-preserved

@@ -1,9 +1,4 @@
-use Rattle.std.proofs.Common.{rules, ◌≡◌, true, false, MatchResult, ℕ, ◌+◌, ◌-◌, ◌*◌, ◌<◌, ◌≤◌, length, ◌/◌, ◌%◌, Bool, nat_eq, nat_lt, List, [], ◌∷◌, ◌++◌, slice_index_or, slice_set, bit_and, bit_or, Fits, w8, w32, w64, Bor, MutBor}
-use Rattle.plans.specs.Answers.{read, mark, keep, back}
-use Rattle.plans.specs.States.{State, opened, noted}
-use Rattle.plans.specs.Steps.{Step, Present}
-use Rattle.plans.specs.Plans.{state_of, read_answer, mark_answer, close_answer, CutOrSame}
-use Rattle.std.proofs.Common.{sym, refl, ◌∙◌, inl, inr}
+use Rattle.std.proofs.Common.{refl, inr}
 use Rattle.std.proofs.lemmas.Bool.{both_ways}
 use Rattle.plans.proofs.Sounds.{sound_restored, noted_youngest, counts_left, cut_is, youngest_added, state_same}
 use Rattle.plans.proofs.plan.Plan.back.Goals as goal

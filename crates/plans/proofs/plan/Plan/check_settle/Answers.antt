@@ -11,8 +11,8 @@ pub returns-then-self-eq0 : goal.returns-then-self-eq0
 returns-then-self-eq0 g c =
     points_refused g.D.Delay.kind (state_of c.args.self.now) c.if-self.false
     (elim c.then-self-eq0.branch [
-      then-self-eq0-via-then-self-eq0 w ↦ inl w.if-self-eq0.true
-    | then-self-eq0-via-else-self-eq0+then-self-gt128 w ↦ inr w.if-self-gt128.true
+      | then-self-eq0-via-then-self-eq0 w ↦ inl w.if-self-eq0.true
+      | then-self-eq0-via-else-self-eq0+then-self-gt128 w ↦ inr w.if-self-gt128.true
     ])
 
 pub returns-then-length-self : goal.returns-then-length-self

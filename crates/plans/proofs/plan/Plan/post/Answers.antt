@@ -1,4 +1,4 @@
-use Rattle.std.proofs.Common.{◌≡◌, ◌∷◌, ◌++◌, [], refl, sym, ap, subst, arith}
+use Rattle.std.proofs.Common.{◌∷◌, ◌++◌, [], refl, sym, ap, subst, arith}
 use Rattle.std.proofs.lemmas.Bool.{both_ways}
 use Rattle.bounds.specs.Making.{row_of}
 use Rattle.books.specs.Meaning.{bounds_of}
@@ -74,10 +74,12 @@ invariant_of-self-2 g c =
     let plan = c.args.self.now in
     let tries = c.in_ok-check_post.ensures {u = tt} in
     let book = bounds_of (g.B.Book.meaning plan.book) in
-    record { sound = sound_posted g.met.D.Delay.lawful (plan.sound.settled_times tries.0) plan.sound.marks_few (row_of c.args.bound) c.copy_from_slice-2.new.self
-        tries.0 tries.1
-        (subst (λ l. Times d.kind plan.points (book ++ row_of c.args.bound ∷ []) (label_time d.kind d.means l)) (sym c.copy_from_slice-2.ensures.after)
-        (c.in_default.ensures {u = tt}).0) (c.in_ok-add.ensures {u = tt}).1 }
+    record {
+      sound = sound_posted g.met.D.Delay.lawful (plan.sound.settled_times tries.0) plan.sound.marks_few (row_of c.args.bound) c.copy_from_slice-2.new.self
+          tries.0 tries.1
+          (subst (λ l. Times d.kind plan.points (book ++ row_of c.args.bound ∷ []) (label_time d.kind d.means l)) (sym c.copy_from_slice-2.ensures.after)
+          (c.in_default.ensures {u = tt}).0) (c.in_ok-add.ensures {u = tt}).1;
+    }
 
 pub returns-clause-step : goal.returns-clause-step
 returns-clause-step g c =

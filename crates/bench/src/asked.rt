@@ -1,0 +1,63 @@
+// What the arguments ask for.
+use crate::part::Part;
+use anyhow::anyhow;
+use std::fmt;
+
+#[derive(Clone, Copy)]
+pub(crate) struct Asked {
+    pub bounds: u16,
+    pub points: u8,
+    pub rounds: u32,
+    // what each round posts, or nothing where the rounds go through every part
+    pub part: Option<Part>,
+}
+
+// The number of points, of which a hop needs two.
+fn points(text: &str) -> anyhow::Result<u8> {
+    match text.parse::<u8>() {
+        Ok(points) if 2 <= points && points <= 128 => Ok(points),
+        _ => Err(anyhow!("POINTS is not a number from 2 to 128")),
+    }
+}
+
+impl Asked {
+    pub(crate) fn new(
+        bounds: &str,
+        number: &str,
+        rounds: &str,
+        part: &str,
+    ) -> anyhow::Result<Asked> {
+        let Ok(bounds) = bounds.parse::<u16>() else {
+            return Err(anyhow!("BOUNDS is not a number from 0 to 65535"));
+        };
+        let points = points(number)?;
+        let Ok(rounds) = rounds.parse::<u32>() else {
+            return Err(anyhow!("ROUNDS is not a number from 0 to 4294967295"));
+        };
+        let part = match part {
+            "all" => None,
+            name => Some(name.parse::<Part>()?),
+        };
+        Ok(Asked {
+            bounds,
+            points,
+            rounds,
+            part,
+        })
+    }
+}
+
+impl fmt::Display for Asked {
+    fn fmt<W: fmt::Write>(&self, f: &mut fmt::Formatter<W>) -> fmt::Result {
+        let Asked {
+            bounds,
+            points,
+            rounds,
+            part: _,
+        } = self;
+        write!(
+            f,
+            "made: {bounds} bounds over {points} points, for {rounds} rounds"
+        )
+    }
+}

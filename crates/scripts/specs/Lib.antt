@@ -1,0 +1,4 @@
+pub mod Faults
+pub mod Commands
+pub mod Texts
+pub mod Sessions

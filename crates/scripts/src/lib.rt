@@ -1,0 +1,10 @@
+// Scripts: lines of commands to a plan, and the listing of their answers.
+#![tactic(auto)]
+
+pub mod answer;
+pub mod command;
+pub mod fault;
+
+pub use answer::Answer;
+pub use command::Command;
+pub use fault::ScriptFault;
