@@ -59,17 +59,32 @@ fn faults_of_layers_below(rt: HostRuntime) -> Result<(), Fail> {
 
 #[test]
 fn faults_in_words(rt: HostRuntime) -> Result<(), Fail> {
-    let told = format!(in rt.alloc();
-        "{} / {} / {} / {} / {}",
-        PlanFault::Unsettled,
-        PlanFault::Point { place: 2 },
-        unread(17),
-        PlanFault::Conflict { length: 3 },
-        PlanFault::Book(BookFault::Full)
-    )?;
-    assert_eq!(rt;
-        told.as_str(),
-        "the plan is not settled / a point is not below the number of points (place 2) / no delay of the kind has these parts (place 17) / the bounds in force hold a chain of 3 / the book has no free place"
-    );
+    let table = [
+        (PlanFault::Unsettled, "the plan is not settled"),
+        (
+            PlanFault::Point { place: 2 },
+            "a point is not below the number of points (place 2)",
+        ),
+        (
+            unread(17),
+            "no delay of the kind has these parts (place 17)",
+        ),
+        (
+            PlanFault::Conflict { length: 3 },
+            "the bounds in force hold a chain of 3",
+        ),
+        (
+            PlanFault::Bound(BoundFault::LeftPoint),
+            "the left point is not from 0 to 4095",
+        ),
+        (
+            PlanFault::Book(BookFault::Full),
+            "the book has no free place",
+        ),
+    ];
+    for (fault, words) in table {
+        let told = format!(in rt.alloc(); "{fault}")?;
+        assert_eq!(rt; told.as_str(), words);
+    }
     Ok(())
 }

@@ -1,7 +1,7 @@
 // Settling over books that can be met, and over books that can't.
 use crate::setups::{Numbers, TickPlan, bound, settle, table, time};
 use books::Table;
-use delays::{Delay, Ranked, Ticks, read_pair};
+use delays::{Delay, Ranked, read_pair};
 use faults::Fault;
 use network::{Edge, Link, edge_of, floor, is_chain};
 use plans::{Plan, PlanFault};
