@@ -8,7 +8,7 @@ use faults::{Fault, Layer};
 use std::error::Error;
 use std::fmt;
 
-// Why a plan refuses a call. A fault of a layer below is carried whole.
+// Why a plan refuses a call. A fault of a layer below is carried whole; at settle, that of a kind gets the bound's number as its place.
 #[derive(Clone, Copy, PartialEq, Eq, Debug)]
 pub enum PlanFault {
     // the plan is not settled
