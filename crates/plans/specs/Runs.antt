@@ -20,6 +20,7 @@ pub data Run (k : Kind) : State → List (Said k) → State → Type 0 where
   rests : {s : State} → Run k s [] s
   goes : {s t u : State} {c : Call} {a : Answer k} {rest : List (Said k)} → Step k s c a t → Run k t rest u → Run k s ((c, a) ∷ rest) u
 
+-- the call alone
 abbrev pub call_of : {k : Kind} → Said k → Call
 call_of x = x.0
 
@@ -39,7 +40,7 @@ abbrev pub RunsAgree : Kind → State → Type 0
 RunsAgree k s = (t u : State) (xs ys : List (Said k)) → Run k s xs t → Run k s ys u → map call_of xs ≡ map call_of ys
     → (map answer_of xs ≡ map answer_of ys) × (t ≡ u)
 
--- no check before that for a conflict refuses the call, and the bounds in question are then these
+-- no check before that for a cover or a conflict refuses the call, and the bounds in question are then these
 abbrev pub Tries : Kind → State → Call → List Row → Type 0
 Tries k s (settle length) bounds =
     (s.settled ≡ false) × (0 < s.points) × (s.points ≤ 128) × (s.points ≤ length) × All (Fit k s.points) (rows s) × (bounds ≡ rows s)
@@ -49,6 +50,7 @@ Tries k s mark bounds = ⊥
 Tries k s (keep number d) bounds = ⊥
 Tries k s (back number d) bounds = ⊥
 
+-- the answer is a conflict
 abbrev pub IsConflict : {k : Kind} → Answer k → Type 0
 IsConflict a = (length : ℕ) × (a ≡ refused (Conflict length))
 
@@ -73,6 +75,7 @@ pub record ReadOut (k : Kind) (t : State) : Type 0 where
   pub least : (y : ℕ → Exact k) → Solution k (force k t.points (rows t)) y → (p : ℕ) → p < t.points → Le k (times p) (y p)
   pub reads : (p : ℕ) (a : Answer k) (u : State) → p < t.points → Step k t (read p) a u → a ≡ time (times p)
 
+-- Reading a settled plan gives the least times.
 abbrev pub ReadsLeast : Kind → State → Type 0
 ReadsLeast k s = (t : State) (xs : List (Said k)) → Run k s xs t → t.settled ≡ true → ReadOut k t
 
@@ -102,6 +105,7 @@ pub data Left {k : Kind} : List (Said k) → List (Said k) → Type 0 where
   taken : {xs ys : List (Said k)} (inner : List (Said k)) (number d : ℕ) → Left xs (ys ++ ((mark, slip number d) ∷ inner)) → Unmarked d inner
       → Left (xs ++ (back number d, done) ∷ []) ys
 
+-- the bound, where the answer says that a post added it
 abbrev pub if_moved : {k : Kind} → Row → Answer k → List Row
 if_moved b (settled count) = []
 if_moved b covered = []
@@ -111,7 +115,7 @@ if_moved b (slip number d) = []
 if_moved b done = []
 if_moved b (refused fault) = []
 
--- the bound that a post accepted
+-- the bound that the call added to the book: that of a post which was accepted and not covered
 abbrev pub accepted : {k : Kind} → Call → Answer k → List Row
 accepted (settle length) a = []
 accepted (post length b) a = if_moved b a
@@ -120,6 +124,7 @@ accepted mark a = []
 accepted (keep number d) a = []
 accepted (back number d) a = []
 
+-- the bounds that the calls added, in order
 abbrev pub all_accepted : {k : Kind} → List (Said k) → List Row
 all_accepted [] = []
 all_accepted (x ∷ xs) = accepted x.0 x.1 ++ all_accepted xs
