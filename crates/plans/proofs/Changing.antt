@@ -1,7 +1,7 @@
 -- What a call makes of the plan. Assumes nothing.
-use Rattle.std.proofs.Common.{◌≡◌, ℕ, ◌+◌, ◌<◌, ◌≤◌, Bool, true, false, ◌⊎◌, List, [], ◌∷◌, ◌++◌, refl, inl, inr, arith}
+use Rattle.std.proofs.Common.{◌≡◌, ℕ, ◌+◌, ◌<◌, ◌≤◌, true, false, ◌⊎◌, List, [], ◌∷◌, ◌++◌, refl, inl, inr, arith}
 use mathlib.Core.Path.{subst⁻¹}
-use Rattle.std.proofs.lemmas.Bool.{cases_eq, cases_lt}
+use Rattle.std.proofs.lemmas.Bool.{cases_eq, cases_lt, true_from_ne_false, false_from_ne_true}
 use Rattle.bounds.specs.declared.row.Row.{Row}
 use Rattle.delays.specs.Kind.{Kind, Exact}
 use Rattle.plans.specs.declared.fault.PlanFault.{PlanFault}
@@ -36,14 +36,6 @@ refused_quiet {k} c fault = record { accepts_none = none c; no_slip = λ number 
     none : (c : Call) → accepted {k = k} c (refused fault) ≡ []
     none (post length b) = refl
     none c = refl
-
-not_false : (b : Bool) → (b ≡ false → ⊥) → b ≡ true
-not_false true h = refl
-not_false false h = absurd (h refl)
-
-not_true : (b : Bool) → (b ≡ true → ⊥) → b ≡ false
-not_true false h = refl
-not_true true h = absurd (h refl)
 
 -- a slip that is not refused is present
 present : (s : State) (number d : ℕ) → ((Present s number d → ⊥) → ⊥) → Present s number d
@@ -86,10 +78,10 @@ module _ {k : Kind} {s : State} where
   pub change : (c : Call) → Makes k s c (Step k s c)
   change (settle length) =
       by_check (λ off. by_check (λ _. by_check (λ _. by_bounds 0 (rows s) (by_judge (rows s) _ (λ x e a t p.
-      becomes _ p (settles x e (not_true s.settled off)))))))
+      becomes _ p (settles x e (false_from_ne_true s.settled off)))))))
   change (post length b) =
       by_check (λ on. by_check (λ _. by_check (λ _. by_check (λ _. by_check (λ _. by_quiet told (λ _. by_judge (rows s ++ b ∷ []) _ (λ x e.
-      by_check (λ some a t p. becomes _ p.2 (posts x e (not_false s.settled on) some)))))))))
+      by_check (λ some a t p. becomes _ p.2 (posts x e (true_from_ne_false s.settled on) some)))))))))
     where
       told : Quiet {k = k} (post length b) covered
       told = record { accepts_none = refl; no_slip = λ number d e. cc; not_done = λ e. cc }
@@ -97,13 +89,13 @@ module _ {k : Kind} {s : State} where
     where
       told : {x : Exact k} → Quiet {k = k} (read p) (time x)
       told = record { accepts_none = refl; no_slip = λ number d e. cc; not_done = λ e. cc }
-  change mark = by_check (λ on. by_check (λ _ a t p. becomes _ p (marks (not_false s.settled on))))
+  change mark = by_check (λ on. by_check (λ _ a t p. becomes _ p (marks (true_from_ne_false s.settled on))))
   change (keep number d) = by_check (λ on. by_check (λ h a t p.
       let o = present s number d h in let e : d ≡ depth s = o.depth_is in
-      becomes _ p (keeps o.number_is o.is_open (omega arith) (not_false s.settled on))))
+      becomes _ p (keeps o.number_is o.is_open (omega arith) (true_from_ne_false s.settled on))))
   change (back number d) = by_check (λ on. by_check (λ h a t p.
       let o = present s number d h in let e : d ≡ depth s = o.depth_is in
-      becomes _ p (backs o.number_is o.is_open (omega arith) (not_false s.settled on))))
+      becomes _ p (backs o.number_is o.is_open (omega arith) (true_from_ne_false s.settled on))))
 
 -- what an accepted mark makes of the plan
 pub record Opens (s : State) (number d : ℕ) (t : State) : Type 0 where

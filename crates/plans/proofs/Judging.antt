@@ -22,6 +22,8 @@ use Rattle.plans.specs.States.{State, rows, posting}
 use Rattle.plans.specs.Steps.{Ending, Becomes, Check, EachBound, Conflicts, Step}
 use Rattle.plans.specs.Runs.{Opened, IsConflict, Judged, ConflictsTrue, ReadsLeast}
 use Rattle.plans.proofs.SoundPlans.{settled_timed}
+use Rattle.plans.proofs.Misfitting.{inside}
+use Rattle.plans.proofs.Least.{times_least}
 
 -- a row of the book is in force
 pub row_in_force : (k : Kind) (n : ℕ) (rows : List Row) (r : Row) → Contains rows r → Contains (force k n rows) (exact_of k r)
@@ -61,18 +63,13 @@ module _ {k : Kind} (laws : Lawful k) where
   pass bounds h f a t (inl p) = absurd (h p.0)
   pass bounds h f a t (inr p) = f a t p.1
 
-  -- a bound that fits has both points
-  outside : (n : ℕ) (b : Row) → Fit k n b → (n ≤ b.left) ⊎ (n ≤ b.right) → ⊥
-  outside n b h (inl o) = let l : b.left < n = h.left in omega arith
-  outside n b h (inr o) = let l : b.right < n = h.right in omega arith
-
   -- bounds that all fit pass their checks
   pass_bounds : {n : ℕ} (all : List Row) (s : State) (i : ℕ) (bounds : List Row) {P : Ending k} → All (Fit k s.points) bounds → Gives n all P
       → Gives n all (EachBound k s i bounds P)
   pass_bounds all s i [] h f = f
   pass_bounds all s i (b ∷ bounds) h f =
       let first = All-head (Fit k s.points) b bounds h in
-      pass all (outside s.points b first) (pass all first.read (pass_bounds all s (i + 1) bounds (All-tail (Fit k s.points) b bounds h) f))
+      pass all (inside s.points b first.left first.right) (pass all first.read (pass_bounds all s (i + 1) bounds (All-tail (Fit k s.points) b bounds h) f))
 
   -- bounds that are met give no conflict
   met : (n : ℕ) (bounds : List Row) {a : Answer k} → Solvable k n bounds → (IsConflict a → ⊥) → Judged k n bounds a
@@ -115,7 +112,7 @@ module _ {k : Kind} (laws : Lawful k) where
   post_judged : (t : State) (len : ℕ) (b : Row) → t.settled ≡ true → Fit k t.points b → t.points ≤ len → Solvable k t.points (rows t)
       → Gives t.points (rows t ++ b ∷ []) (Step k t (post len b))
   post_judged t len b on fit long now = let all = rows t ++ b ∷ [] in
-      pass all (λ off. both_ways t.settled off on) (pass all (λ l. outside t.points b fit (inl l)) (pass all (λ l. outside t.points b fit (inr l))
+      pass all (λ off. both_ways t.settled off on) (pass all (λ l. inside t.points b fit.left fit.right (inl l)) (pass all (λ l. inside t.points b fit.left fit.right (inr l))
       (pass all fit.read (pass all (λ l. omega arith) (cover_judged t b now (judged all _ (no_conflict t b)))))))
 
   -- a conflict exactly when no assignment meets the bounds in question
@@ -133,8 +130,7 @@ module _ {k : Kind} (laws : Lawful k) where
   pub reads_least : (s : State) → Opened s → ReadsLeast k s
   reads_least s o t xs r f = let h = settled_timed o r f in let e = h.1.earliest in record {
     times = h.0;
-    solution = h.1.solution;
-    least = λ y z p l. (earliest_theory laws).least (force k t.points (rows t)) p (h.0 p) (e p l) y z;
+    least = times_least laws t.points (rows t) h.0 h.1;
     reads = λ p a u l q. read_is p a u l q (h.0 p) (e p l);
   }
     where

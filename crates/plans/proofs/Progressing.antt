@@ -1,5 +1,5 @@
 -- What rounds keep, and what they come to when no point waits. Assumes nothing.
-use Rattle.std.proofs.Common.{◌≡◌, ℕ, zero, suc, ◌+◌, ◌*◌, ◌<◌, ◌≤◌, Bool, true, false, ◌≢◌, List, [], length, get_or, set, refl, ap, ◌∙◌, subst, ⊎_elim, suc-mul, arith}
+use Rattle.std.proofs.Common.{◌≡◌, ℕ, zero, suc, ◌+◌, ◌*◌, ◌<◌, ◌≤◌, Bool, true, false, ◌≢◌, List, [], length, get_or, set, refl, ap, ◌∙◌, ⊎_elim, suc-mul, arith}
 use Rattle.std.specs.List.{All, Contains}
 use Rattle.std.proofs.lemmas.List.Elements.{All-get_or, All-from_get_or}
 use Rattle.std.proofs.lemmas.List.{get_or-set_same, get_or-set_other}
@@ -22,12 +22,11 @@ use Rattle.plans.proofs.Stories.{in_points, story_more, quiet_next, reached_next
 
 module _ {k : Kind} (laws : Lawful k) where
   -- times only rise from round to round
-  story_rises : {edges : Bounds k} {n done : ℕ} {begun : ℕ → Bool} {start : ℕ → Exact k} {via : ℕ → ℕ → ℕ} {time : ℕ → Exact k} {waits : ℕ → Bool}
-      (s : Story k edges n done begun start via time waits) (j p : ℕ) → j ≤ done → p < n → Le k (s.times 0 p) (s.times j p)
-  story_rises s zero p h l = laws.reflexive (s.times 0 p)
-  story_rises s (suc j) p h l =
-      let last : j + 1 ≡ suc j = omega arith in
-      laws.transitive _ _ _ (story_rises s j p (omega arith) l) (subst (λ (a : ℕ). Le k (s.times j p) (s.times a p)) last (s.rise j p (omega arith) l))
+  pub rises_by : {edges : Bounds k} {n done : ℕ} {begun : ℕ → Bool} {start : ℕ → Exact k} {via : ℕ → ℕ → ℕ} {time : ℕ → Exact k} {waits : ℕ → Bool}
+      (s : Story k edges n done begun start via time waits) (i d j : ℕ) → i + d ≡ j → j ≤ done → (p : ℕ) → p < n → Le k (s.times i p) (s.times j p)
+  rises_by s i zero j e h p l = let same : i ≡ j = omega arith in rw same (laws.reflexive (s.times j p))
+  rises_by s i (suc d) j e h p l =
+      laws.transitive (s.times i p) (s.times (i + 1) p) (s.times j p) (s.rise i p (omega arith) l) (rises_by s (i + 1) d j (omega arith) h p l)
 
   -- times that meet bounds, all moved by one delay, meet them too
   meets_moved : (t : ℕ → Exact k) (o : Exact k) (edges : Bounds k) → ((i : ℕ) → i < length edges → Meets k t (numbered edges i))
@@ -121,7 +120,7 @@ module _ {X : Type 0} {k : Kind} (laws : Lawful k) (means : X → Exact k) (edge
     met i l = h.quiet i l (still _ (in_points edges n inside i l).left)
 
     above : Le k k.zero (label_time k means labels 0)
-    above = rw (h.story.last 0 some, h.story.first 0 some, zero_at) at (story_rises laws h.story done 0 (omega arith) some)
+    above = rw (h.story.last 0 some, h.story.first 0 some, zero_at) at (rises_by laws h.story 0 done done (omega arith) (omega arith) 0 some)
 
     pub rest_solution : Solution k edges (label_time k means labels)
     rest_solution = record {

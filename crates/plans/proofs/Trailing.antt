@@ -1,5 +1,5 @@
 -- The trail back from a point that waits after the last round, and the chain on it. Assumes nothing.
-use Rattle.std.proofs.Common.{true, ◌≡◌, ℕ, zero, suc, ◌+◌, ◌-◌, ◌<◌, ◌≤◌, ◌⊎◌, List, ◌∷◌, map, length, get_or, take, drop, set, Bool, Some, None, Option, sym, refl, ap, ◌∙◌, inl, inr, ⊎_elim, arith, drop-cons, add-one, get_or-set_other, get_or-set_same}
+use Rattle.std.proofs.Common.{true, ◌≡◌, ℕ, zero, suc, ◌+◌, ◌-◌, ◌<◌, ◌≤◌, ◌⊎◌, List, ◌∷◌, map, length, get_or, take, drop, set, Some, None, Option, sym, refl, ap, ◌∙◌, inl, inr, ⊎_elim, arith, drop-cons, add-one, get_or-set_other, get_or-set_same}
 use Rattle.std.proofs.lemmas.Simd.{map-map}
 use Rattle.std.specs.List.{All, range_with_len, slice_range}
 use Rattle.std.specs.Option.{IsSome}
@@ -9,7 +9,7 @@ use Rattle.std.proofs.lemmas.List.Edits.{length-between}
 use Rattle.std.proofs.lemmas.List.Elements.{All-get_or, Contains-get_or}
 use Rattle.delays.specs.Kind.{Kind, Exact, Lawful}
 use Rattle.network.specs.Bounds.{ExactBound, Bounds, floor_of, Inside}
-use Rattle.network.specs.Assignments.{Le, Lt}
+use Rattle.network.specs.Assignments.{Lt}
 use Rattle.network.specs.Chains.{ChainIn}
 use Rattle.network.specs.Rounds.{Repeated, stretch}
 use Rattle.network.proofs.Counting.{all_counting}
@@ -18,8 +18,9 @@ use Rattle.network.proofs.Repeating.{rounds_repeat}
 use Rattle.plans.specs.declared.label.Label.{Label}
 use Rattle.plans.specs.Labels.{label_time, label_waits, noted_via}
 use Rattle.plans.specs.Questions.{numbered}
-use Rattle.plans.specs.Rounds.{Fresh, Came, Story, Progress}
+use Rattle.plans.specs.Rounds.{Fresh, Came, Progress}
 use Rattle.plans.specs.Trails.{Behind, Trail, ChainOf, RepeatAt, FirstRepeatOf}
+use Rattle.plans.proofs.Progressing.{rises_by}
 
 -- rounds over all points that left `start` waiting
 pub behind : {k : Kind} {edges : Bounds k} {X : Type 0} {means : X → Exact k} {n : ℕ} {from labels : List (Label X)} {via : List (List ℕ)} {start : ℕ}
@@ -49,14 +50,6 @@ pub record Followed (k : Kind) (edges : Bounds k) (n : ℕ) (via : List (List �
   pub at : get_or points round 0 ≡ here
   pub notes : (j : ℕ) → round ≤ j → j < n → get_or numbers j 0 ≡ noted_via via j (get_or points (j + 1) 0)
   pub lefts : (j : ℕ) → round ≤ j → j < n → (numbered edges (get_or numbers j 0)).left ≡ get_or points j 0
-
-module _ {k : Kind} (laws : Lawful k) {edges : Bounds k} {n : ℕ} {begun : ℕ → Bool} {first : ℕ → Exact k} {via : ℕ → ℕ → ℕ}
-    {time : ℕ → Exact k} {waits : ℕ → Bool} (s : Story k edges n n begun first via time waits) where
-  -- times only rise
-  rises_by : (i d j : ℕ) → i + d ≡ j → j ≤ n → (p : ℕ) → p < n → Le k (s.times i p) (s.times j p)
-  rises_by i zero j e h p l = let same : i ≡ j = omega arith in rw same (laws.reflexive (s.times j p))
-  rises_by i (suc d) j e h p l =
-      laws.transitive (s.times i p) (s.times (i + 1) p) (s.times j p) (s.rise i p (omega arith) l) (rises_by (i + 1) d j (omega arith) h p l)
 
 module _ {k : Kind} {edges : Bounds k} {n : ℕ} {via : List (List ℕ)} {start : ℕ} (b : Behind k edges n via start)
     (inside : All (Inside k n) edges)

@@ -3,10 +3,9 @@ use Rattle.std.specs.Prelude.{◌≡◌, ℕ, ◌<◌, ◌≤◌, true, false, L
 use Rattle.bounds.specs.declared.row.Row.{Row}
 use Rattle.delays.specs.Kind.{Kind, Exact}
 use Rattle.network.specs.Bounds.{Bounds}
-use Rattle.network.specs.Assignments.{Le, Solution}
 use Rattle.network.specs.Chains.{ChainIn}
 use Rattle.plans.specs.declared.fault.PlanFault.TheVariants.{Conflict}
-use Rattle.plans.specs.Rows.{force, Fit, Solvable}
+use Rattle.plans.specs.Rows.{force, Fit, Solvable, Least}
 use Rattle.plans.specs.Answers.{Call, settle, post, read, mark, keep, back, Answer, settled, covered, moved, time, slip, done, refused, aside}
 use Rattle.plans.specs.States.{State, rows}
 use Rattle.plans.specs.Steps.{Step}
@@ -71,8 +70,7 @@ ConflictsTrue k s = (t u : State) (xs : List (Said k)) (c : Call) (a : Answer k)
 -- the times that reading gives of a settled plan: an assignment that meets the bounds in force, and each is the least of any such
 pub record ReadOut (k : Kind) (t : State) : Type 0 where
   pub times : ℕ → Exact k
-  pub solution : Solution k (force k t.points (rows t)) times
-  pub least : (y : ℕ → Exact k) → Solution k (force k t.points (rows t)) y → (p : ℕ) → p < t.points → Le k (times p) (y p)
+  pub least : Least k t.points (rows t) times
   pub reads : (p : ℕ) (a : Answer k) (u : State) → p < t.points → Step k t (read p) a u → a ≡ time (times p)
 
 -- Reading a settled plan gives the least times.

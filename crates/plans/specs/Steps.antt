@@ -9,7 +9,7 @@ use Rattle.network.specs.Chains.{ChainIn}
 use Rattle.network.specs.Earliest.{Earliest}
 use Rattle.plans.specs.declared.fault.PlanFault.{PlanFault}
 use Rattle.plans.specs.declared.fault.PlanFault.TheVariants.{Unsettled, SettledAlready, Points, ListShort, Point, Kind as KindRefuses, Conflict, MarksFull, WrongSlip, Book}
-use Rattle.plans.specs.Rows.{force, Covered, Times, moved_count}
+use Rattle.plans.specs.Rows.{force, Outside, Covered, Times, moved_count}
 use Rattle.plans.specs.Answers.{Call, settle, post, read, mark, keep, back, Answer, settled, covered, moved, time, slip, done, refused}
 use Rattle.plans.specs.States.{State, rows, depth, settling, posting, marking, closing, cutting, noted}
 
@@ -29,7 +29,7 @@ Check s bad fault next a t = (bad × Becomes (refused fault) s a t) ⊎ ((bad �
 abbrev pub EachBound : (k : Kind) → State → ℕ → List Row → Ending k → Ending k
 EachBound k s i [] next = next
 EachBound k s i (b ∷ bs) next =
-    Check s ((s.points ≤ b.left) ⊎ (s.points ≤ b.right)) (Point i)
+    Check s (Outside s.points b) (Point i)
     (Check s (Unread k b.t b.s) (KindRefuses unread i)
     (EachBound k s (i + 1) bs next))
 
