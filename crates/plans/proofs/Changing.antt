@@ -8,7 +8,7 @@ use Rattle.plans.specs.declared.fault.PlanFault.{PlanFault}
 use Rattle.plans.specs.Rows.{Times}
 use Rattle.plans.specs.Answers.{Call, settle, post, read, mark, keep, back, Answer, settled, covered, moved, time, slip, done, refused}
 use Rattle.plans.specs.States.{State, rows, depth, settling, posting, marking, closing, cutting, noted}
-use Rattle.plans.specs.Steps.{Ending, Becomes, Check, EachBound, Conflicts, Present, Step}
+use Rattle.plans.specs.Steps.{Ending, Becomes, Unless, Check, EachBound, Conflicts, Present, Step}
 use Rattle.plans.specs.Runs.{accepted}
 
 -- an answer that leaves the plan as it is: it accepts no bound, is no slip, and is not that of an accepted keep or back
@@ -58,7 +58,7 @@ module _ {k : Kind} {s : State} where
 
   -- a check with a quiet answer changes nothing
   by_quiet : {c : Call} {bad : Type 0} {x : Answer k} {P : Ending k} → Quiet c x → ((bad → ⊥) → Makes k s c P)
-      → Makes k s c (λ a t. (bad × Becomes x s a t) ⊎ ((bad → ⊥) × P a t))
+      → Makes k s c (Unless s bad x P)
   by_quiet {c} q f a t (inl p) = becomes c p.1 (same q)
   by_quiet q f a t (inr p) = f p.0 a t p.1
 

@@ -9,8 +9,8 @@ use Rattle.delays.specs.Kind.{Kind}
 use Rattle.books.specs.Meaning.{Meaning, with_bounds, cut_to}
 use Rattle.plans.specs.Answers.{Call, Answer}
 use Rattle.plans.specs.States.{State, depth, marking, closing, cutting, noted}
-use Rattle.plans.specs.Runs.{Said, Run, rests, goes, Unmarked}
-use Rattle.plans.proofs.Parting.{OpensNone, low_run}
+use Rattle.plans.specs.Runs.{Said, Run, rests, goes, OpensNone, Unmarked}
+use Rattle.plans.proofs.Parting.{low_run}
 use Rattle.plans.proofs.Changing.{Change, same, settles, posts, marks, keeps, backs, change}
 
 -- from place n on, each of the counts is at least low

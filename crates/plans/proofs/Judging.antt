@@ -13,13 +13,12 @@ use Rattle.network.specs.Earliest.{Earliest}
 use Rattle.network.proofs.Orders.{sum_orders}
 use Rattle.network.proofs.Turning.{posted_either}
 use Rattle.network.proofs.Theorems.{chain_theory, earliest_theory}
-use Rattle.books.specs.declared.fault.BookFault.TheVariants.{Full}
 use Rattle.plans.specs.declared.fault.PlanFault.{PlanFault}
-use Rattle.plans.specs.declared.fault.PlanFault.TheVariants.{Conflict, Book}
-use Rattle.plans.specs.Rows.{exact_of, force, Fit, Covers, Covered, Solvable, Times, moved_count}
-use Rattle.plans.specs.Answers.{settle, post, read, mark, keep, back, Answer, covered, moved, time, refused}
-use Rattle.plans.specs.States.{State, rows, posting}
-use Rattle.plans.specs.Steps.{Ending, Becomes, Check, EachBound, Conflicts, Step}
+use Rattle.plans.specs.declared.fault.PlanFault.TheVariants.{Conflict}
+use Rattle.plans.specs.Rows.{exact_of, force, Fit, Covers, Covered, Solvable}
+use Rattle.plans.specs.Answers.{settle, post, read, mark, keep, back, Answer, covered, time, refused}
+use Rattle.plans.specs.States.{State, rows}
+use Rattle.plans.specs.Steps.{Ending, Unless, Check, EachBound, Conflicts, PostAdded, Step}
 use Rattle.plans.specs.Runs.{Opened, IsConflict, Judged, ConflictsTrue, ReadsLeast}
 use Rattle.plans.proofs.SoundPlans.{settled_timed}
 use Rattle.plans.proofs.Misfitting.{inside}
@@ -97,14 +96,13 @@ module _ {k : Kind} (laws : Lawful k) where
 
   -- a post that is covered
   cover_judged : (t : State) (b : Row) → Solvable k t.points (rows t) → {P : Ending k} → Gives t.points (rows t ++ b ∷ []) P
-      → Gives t.points (rows t ++ b ∷ []) (λ a u. (Covered k (rows t) b × Becomes covered t a u) ⊎ ((Covered k (rows t) b → ⊥) × P a u))
+      → Gives t.points (rows t ++ b ∷ []) (Unless t (Covered k (rows t) b) covered P)
   cover_judged t b now f a u (inl p) =
       met t.points (rows t ++ b ∷ []) (covers_solvable t.points (rows t) b p.0 now) (λ c. let e = p.1.0 in let f = c.1 in cc)
   cover_judged t b now f a u (inr p) = f a u p.1
 
   -- past the check for a conflict, a full book and a count of moved points are none
-  no_conflict : (t : State) (b : Row) (x : ℕ → Exact k) (a : Answer k) (u : State) → Check t (t.book.free ≡ 0) (Book Full) (λ a u.
-      (old : ℕ → Exact k) × Times k t.points (rows t) old × Becomes (moved (moved_count k t.points old x)) (posting b t) a u) a u → IsConflict a → ⊥
+  no_conflict : (t : State) (b : Row) (x : ℕ → Exact k) (a : Answer k) (u : State) → PostAdded k t b x a u → IsConflict a → ⊥
   no_conflict t b x a u (inl p) c = let e = p.1.0 in let f = c.1 in cc
   no_conflict t b x a u (inr p) c = let e = p.1.2.0 in let f = c.1 in cc
 

@@ -77,9 +77,13 @@ pub record ReadOut (k : Kind) (t : State) : Type 0 where
 abbrev pub ReadsLeast : Kind → State → Type 0
 ReadsLeast k s = (t : State) (xs : List (Said k)) → Run k s xs t → t.settled ≡ true → ReadOut k t
 
+-- the call with its answer opens no mark at depth d
+abbrev pub OpensNone : {k : Kind} → ℕ → Said k → Type 0
+OpensNone d x = (number : ℕ) → x ≡ (mark, slip number d) → ⊥
+
 -- none of the calls opened a mark at depth d
 abbrev pub Unmarked : {k : Kind} → ℕ → List (Said k) → Type 0
-Unmarked d xs = All (λ x. (number : ℕ) → x ≡ (mark, slip number d) → ⊥) xs
+Unmarked d xs = All (OpensNone d) xs
 
 -- the latest mark at depth d among the calls, which gave the slip with this number
 pub record MarkOf {k : Kind} (number d : ℕ) (calls : List (Said k)) : Type 0 where
@@ -89,19 +93,23 @@ pub record MarkOf {k : Kind} (number d : ℕ) (calls : List (Said k)) : Type 0 w
   pub unmarked : Unmarked d inner
 
 -- An accepted back takes back each call from its mark, the latest at its depth, through itself: the run without them leads to the same plan,
--- and whichever answers the calls that are left may have, they are the same, chains aside.
+-- and whichever answers the calls that remain may have, they are the same, chains aside.
 abbrev pub BacksRestore : Kind → State → Type 0
 BacksRestore k s = (t : State) (number d : ℕ) (earlier later : List (Said k)) → Run k s (earlier ++ ((back number d, done) ∷ later)) t
     → (m : MarkOf number d earlier) × Run k s (m.before ++ later) t
     × ((u : State) (ys : List (Said k)) → Run k s ys u → map call_of ys ≡ map call_of (m.before ++ later)
     → (map answer_of ys ≡ map answer_of (m.before ++ later)) × (u ≡ t))
 
--- what is left of the calls: an accepted back takes back each from its mark through itself
-pub data Left {k : Kind} : List (Said k) → List (Said k) → Type 0 where
-  start : Left [] []
-  further : {xs ys : List (Said k)} {x : Said k} → Left xs ys → ((number d : ℕ) → x ≡ (back number d, done) → ⊥) → Left (xs ++ x ∷ []) (ys ++ x ∷ [])
-  taken : {xs ys : List (Said k)} (inner : List (Said k)) (number d : ℕ) → Left xs (ys ++ ((mark, slip number d) ∷ inner)) → Unmarked d inner
-      → Left (xs ++ (back number d, done) ∷ []) ys
+-- the call with its answer is no accepted back
+abbrev pub Forward : {k : Kind} → Said k → Type 0
+Forward x = (number d : ℕ) → x ≡ (back number d, done) → ⊥
+
+-- what remains of the calls: an accepted back takes back each from its mark through itself
+pub data Remaining {k : Kind} : List (Said k) → List (Said k) → Type 0 where
+  start : Remaining [] []
+  further : {xs ys : List (Said k)} {x : Said k} → Remaining xs ys → Forward x → Remaining (xs ++ x ∷ []) (ys ++ x ∷ [])
+  taken : {xs ys : List (Said k)} (inner : List (Said k)) (number d : ℕ) → Remaining xs (ys ++ ((mark, slip number d) ∷ inner)) → Unmarked d inner
+      → Remaining (xs ++ (back number d, done) ∷ []) ys
 
 -- the bound, where the answer says that a post added it
 abbrev pub if_moved : {k : Kind} → Row → Answer k → List Row
@@ -130,7 +138,7 @@ all_accepted (x ∷ xs) = accepted x.0 x.1 ++ all_accepted xs
 -- The book's bounds are those at opening and then, in order, each that a post accepted and no back took back.
 abbrev pub BooksStand : Kind → State → Type 0
 BooksStand k s = (t : State) (xs : List (Said k)) → Run k s xs t
-    → ((ys : List (Said k)) × Left xs ys) × ((ys : List (Said k)) → Left xs ys → rows t ≡ rows s ++ all_accepted ys)
+    → ((ys : List (Said k)) × Remaining xs ys) × ((ys : List (Said k)) → Remaining xs ys → rows t ≡ rows s ++ all_accepted ys)
 
 -- the law of all runs that begin with the plan s, as opening gives it
 pub record RunsStand (k : Kind) (s : State) : Type 0 where
