@@ -12,14 +12,14 @@ use Rattle.plans.specs.Steps.{Ending, Becomes, Unless, Check, EachBound, Conflic
 use Rattle.plans.specs.Runs.{accepted}
 
 -- an answer that leaves the plan as it is: it accepts no bound, is no slip, and is not that of an accepted keep or back
-pub record Quiet {k : Kind} (c : Call) (a : Answer k) : Type 0 where
+pub record Unchanging {k : Kind} (c : Call) (a : Answer k) : Type 0 where
   pub accepts_none : accepted c a ≡ []
   pub no_slip : (number d : ℕ) → a ≡ slip number d → ⊥
   pub not_done : a ≡ done → ⊥
 
 -- how a call with its answer changes a plan
 pub data Change (k : Kind) (s : State) : Call → Answer k → State → Type 0 where
-  same : {c : Call} {a : Answer k} → Quiet c a → Change k s c a s
+  same : {c : Call} {a : Answer k} → Unchanging c a → Change k s c a s
   settles : {length count : ℕ} (x : ℕ → Exact k) → Times k s.points (rows s) x → s.settled ≡ false
       → Change k s (settle length) (settled count) (settling s)
   posts : {length count : ℕ} {b : Row} (x : ℕ → Exact k) → Times k s.points (rows s ++ b ∷ []) x → s.settled ≡ true → (s.book.free ≡ 0 → ⊥)
@@ -30,8 +30,8 @@ pub data Change (k : Kind) (s : State) : Call → Answer k → State → Type 0 
       → Change k s (back number d) done (cutting (noted s d) (closing d s))
 
 -- a refusal leaves the plan as it is
-refused_quiet : {k : Kind} (c : Call) (fault : PlanFault) → Quiet {k = k} c (refused fault)
-refused_quiet {k} c fault = record { accepts_none = none c; no_slip = λ number d e. cc; not_done = λ e. cc }
+refused_unchanging : {k : Kind} (c : Call) (fault : PlanFault) → Unchanging {k = k} c (refused fault)
+refused_unchanging {k} c fault = record { accepts_none = none c; no_slip = λ number d e. cc; not_done = λ e. cc }
   where
     none : (c : Call) → accepted {k = k} c (refused fault) ≡ []
     none (post length b) = refl
@@ -56,14 +56,14 @@ module _ {k : Kind} {s : State} where
   becomes : (c : Call) {x a : Answer k} {v t : State} → Becomes x v a t → Change k s c x v → Change k s c a t
   becomes c {x} {a} {v} {t} p h = subst⁻¹ (λ (y : Answer k). Change k s c y t) p.0 (subst⁻¹ (λ (z : State). Change k s c x z) p.1 h)
 
-  -- a check with a quiet answer changes nothing
-  by_quiet : {c : Call} {bad : Type 0} {x : Answer k} {P : Ending k} → Quiet c x → ((bad → ⊥) → Makes k s c P)
+  -- a check with such an answer changes nothing
+  by_unchanging : {c : Call} {bad : Type 0} {x : Answer k} {P : Ending k} → Unchanging c x → ((bad → ⊥) → Makes k s c P)
       → Makes k s c (Unless s bad x P)
-  by_quiet {c} q f a t (inl p) = becomes c p.1 (same q)
-  by_quiet q f a t (inr p) = f p.0 a t p.1
+  by_unchanging {c} q f a t (inl p) = becomes c p.1 (same q)
+  by_unchanging q f a t (inr p) = f p.0 a t p.1
 
   by_check : {c : Call} {bad : Type 0} {x : PlanFault} {P : Ending k} → ((bad → ⊥) → Makes k s c P) → Makes k s c (Check s bad x P)
-  by_check {c} {x = x} = by_quiet (refused_quiet c x)
+  by_check {c} {x = x} = by_unchanging (refused_unchanging c x)
 
   by_bounds : {c : Call} (i : ℕ) (bounds : List Row) {P : Ending k} → Makes k s c P → Makes k s c (EachBound k s i bounds P)
   by_bounds i [] f = f
@@ -71,7 +71,7 @@ module _ {k : Kind} {s : State} where
 
   by_judge : {c : Call} (bounds : List Row) (next : (ℕ → Exact k) → Ending k)
       → ((x : ℕ → Exact k) → Times k s.points bounds x → Makes k s c (next x)) → Makes k s c (Conflicts k s bounds next)
-  by_judge {c} bounds next f a t (inl p) = becomes c p.2 (same (refused_quiet c _))
+  by_judge {c} bounds next f a t (inl p) = becomes c p.2 (same (refused_unchanging c _))
   by_judge bounds next f a t (inr p) = f p.0 p.1 a t p.2
 
   -- each call with its answer makes one of the changes
@@ -80,14 +80,14 @@ module _ {k : Kind} {s : State} where
       by_check (λ off. by_check (λ _. by_check (λ _. by_bounds 0 (rows s) (by_judge (rows s) _ (λ x e a t p.
       becomes _ p (settles x e (false_from_ne_true s.settled off)))))))
   change (post length b) =
-      by_check (λ on. by_check (λ _. by_check (λ _. by_check (λ _. by_check (λ _. by_quiet told (λ _. by_judge (rows s ++ b ∷ []) _ (λ x e.
+      by_check (λ on. by_check (λ _. by_check (λ _. by_check (λ _. by_check (λ _. by_unchanging told (λ _. by_judge (rows s ++ b ∷ []) _ (λ x e.
       by_check (λ some a t p. becomes _ p.2 (posts x e (true_from_ne_false s.settled on) some)))))))))
     where
-      told : Quiet {k = k} (post length b) covered
+      told : Unchanging {k = k} (post length b) covered
       told = record { accepts_none = refl; no_slip = λ number d e. cc; not_done = λ e. cc }
   change (read p) = by_check (λ on. by_check (λ _ a t q. becomes _ q.2 (same told)))
     where
-      told : {x : Exact k} → Quiet {k = k} (read p) (time x)
+      told : {x : Exact k} → Unchanging {k = k} (read p) (time x)
       told = record { accepts_none = refl; no_slip = λ number d e. cc; not_done = λ e. cc }
   change mark = by_check (λ on. by_check (λ _ a t p. becomes _ p (marks (true_from_ne_false s.settled on))))
   change (keep number d) = by_check (λ on. by_check (λ h a t p.

@@ -20,7 +20,7 @@ use Rattle.plans.specs.Answers.{settle, post, read, mark, keep, back, Answer, co
 use Rattle.plans.specs.States.{State, rows}
 use Rattle.plans.specs.Steps.{Ending, Unless, Check, EachBound, Conflicts, PostAdded, Step}
 use Rattle.plans.specs.Runs.{Opened, IsConflict, Judged, ConflictsTrue, ReadsLeast}
-use Rattle.plans.proofs.SoundPlans.{settled_timed}
+use Rattle.plans.proofs.Timing.{settled_timed}
 use Rattle.plans.proofs.Misfitting.{inside}
 use Rattle.plans.proofs.Least.{times_least}
 

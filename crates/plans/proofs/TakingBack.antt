@@ -8,7 +8,7 @@ use Rattle.plans.specs.Runs.{Said, Run, goes, Unmarked, MarkOf, Opened, BacksRes
 use Rattle.plans.proofs.Agreeing.{runs_agree}
 use Rattle.plans.proofs.Changing.{Change, change, opens, shuts}
 use Rattle.plans.proofs.Parting.{split, join, opened_mark}
-use Rattle.plans.proofs.Enclosing.{Inside, inside_first, inside_run, back_restores}
+use Rattle.plans.proofs.Enclosing.{Enclosed, enclosed_first, enclosed_run, back_restores}
 
 module _ {k : Kind} where
   -- the plan after the back is the one before the mark
@@ -18,9 +18,9 @@ module _ {k : Kind} where
       let o = opens p in
       let c = shuts q in
       c.after ∙ go o.settled o.depth_is c.open_there
-      (inside_run inner (subst (λ (z : State). Run k z inner w) o.after r) (subst (λ (j : ℕ). Unmarked j inner) o.depth_is n) (inl (inside_first o.settled)))
+      (enclosed_run inner (subst (λ (z : State). Run k z inner w) o.after r) (subst (λ (j : ℕ). Unmarked j inner) o.depth_is n) (inl (enclosed_first o.settled)))
     where
-      go : s.settled ≡ true → d ≡ depth s + 1 → d ≤ depth w → Inside s w ⊎ (depth w < depth s + 1) → cutting (noted w d) (closing d w) ≡ s
+      go : s.settled ≡ true → d ≡ depth s + 1 → d ≤ depth w → Enclosed s w ⊎ (depth w < depth s + 1) → cutting (noted w d) (closing d w) ≡ s
       go f e g (inl i) = back_restores i f d e
       go f e g (inr l) = absurd (omega arith)
 
