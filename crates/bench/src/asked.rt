@@ -20,12 +20,25 @@ fn points(text: &str) -> anyhow::Result<u8> {
     }
 }
 
+// What each round posts, or nothing for all. Point 0 can't be moved, so the points to be moved are fewer than all.
+fn part(text: &str, points: u8) -> anyhow::Result<Option<Part>> {
+    if text == "all" {
+        return Ok(None);
+    }
+    match text.parse::<Part>()? {
+        Part::Moving { count } if count == 0 || u32::from(points) <= count => {
+            Err(anyhow!("PART is a number, but not one from 1 to POINTS - 1"))
+        }
+        part => Ok(Some(part)),
+    }
+}
+
 impl Asked {
     pub(crate) fn new(
         bounds: &str,
         number: &str,
         rounds: &str,
-        part: &str,
+        word: &str,
     ) -> anyhow::Result<Asked> {
         let Ok(bounds) = bounds.parse::<u16>() else {
             return Err(anyhow!("BOUNDS is not a number from 0 to 65535"));
@@ -34,10 +47,7 @@ impl Asked {
         let Ok(rounds) = rounds.parse::<u32>() else {
             return Err(anyhow!("ROUNDS is not a number from 0 to 4294967295"));
         };
-        let part = match part {
-            "all" => None,
-            name => Some(name.parse::<Part>()?),
-        };
+        let part = part(word, points)?;
         Ok(Asked {
             bounds,
             points,

@@ -61,7 +61,8 @@ impl fmt::Display for Tally {
         } = self;
         write!(
             f,
-            "posts: {covered} covered, {still} that moved nothing, {moving} that moved {moved} points in all, {conflicts} in conflict by {links} bounds in all, {full} with no place left"
+            "posts: {covered} covered, {still} that moved nothing, {moving} that moved {moved} points in all, \
+            {conflicts} in conflict by {links} bounds in all, {full} with no place left"
         )
     }
 }

@@ -13,10 +13,11 @@ use Rattle.network.proofs.Orders.{sum_orders, no_less, opposites_reverse}
 use Rattle.network.proofs.Counting.{apart_tail, apart_cons, apart_one}
 use Rattle.network.proofs.Walking.{walk_bounds_below, closed_at_least}
 
-all_front : {A : Type 0} (P : A → Type 0) (xs ys : List A) → All P (xs ++ ys) → All P xs
+-- what holds of each element of a list holds of those of its parts
+pub all_front : {A : Type 0} (P : A → Type 0) (xs ys : List A) → All P (xs ++ ys) → All P xs
 all_front P xs ys h = subst (All P) (take-append_seam xs ys) (All-take P (length xs) (xs ++ ys) h)
 
-all_back : {A : Type 0} (P : A → Type 0) (xs ys : List A) → All P (xs ++ ys) → All P ys
+pub all_back : {A : Type 0} (P : A → Type 0) (xs ys : List A) → All P (xs ++ ys) → All P ys
 all_back P xs ys h = subst (All P) (drop-append_seam xs ys) (All-drop P (length xs) (xs ++ ys) h)
 
 -- a walk from r to q that comes to p, taken apart there

@@ -1,5 +1,5 @@
 -- The calls of a run determine its answers, chains aside, and the plan. Assumes nothing.
-use Rattle.std.proofs.Common.{◌≡◌, ℕ, zero, suc, ◌+◌, ◌<◌, Bool, ◌⊎◌, List, [], ◌∷◌, ◌++◌, map, sym, refl, ap, ◌∙◌, inl, inr, arith}
+use Rattle.std.proofs.Common.{◌≡◌, ℕ, zero, suc, ◌+◌, ◌<◌, Bool, List, [], ◌∷◌, ◌++◌, map, sym, refl, ap, ◌∙◌, inl, inr, arith}
 use mathlib.Core.Path.{subst⁻¹}
 use Rattle.bounds.specs.declared.row.Row.{Row}
 use Rattle.delays.specs.Kind.{Kind, Exact, Lawful}
@@ -8,7 +8,7 @@ use Rattle.network.proofs.Theorems.{chain_theory, earliest_theory}
 use Rattle.plans.specs.Rows.{force, Times, tally, moved_count}
 use Rattle.plans.specs.Answers.{Call, settle, post, read, mark, keep, back, Answer, settled, moved, time, aside}
 use Rattle.plans.specs.States.{State, rows}
-use Rattle.plans.specs.Steps.{Ending, Becomes, EachBound, Conflicts, Step}
+use Rattle.plans.specs.Steps.{Ending, Becomes, Unless, EachBound, Conflicts, Step}
 use Rattle.plans.specs.Runs.{Run, rests, goes, answer_of, RunsAgree}
 
 -- tests that agree below n have the same tally
@@ -33,10 +33,7 @@ module _ {k : Kind} where
   both_become : {x y : Answer k} {s v : State} → x ≡ y → s ≡ v → Both (Becomes x s) (Becomes y v)
   both_become e f a b t u p q = (ap aside (p.0 ∙ e ∙ sym q.0), p.1 ∙ f ∙ sym q.1)
 
-  -- where `bad` holds this is the answer, and the plan stays: a check for a fault, and the one for a cover
-  abbrev Unless : State → Type 0 → Answer k → Ending k → Ending k
-  Unless s bad x P a t = (bad × Becomes x s a t) ⊎ ((bad → ⊥) × P a t)
-
+  -- a check for a fault, and the one for a cover
   both_check : {s : State} {bad : Type 0} {x : Answer k} {P Q : Ending k} → Both P Q → Both (Unless s bad x P) (Unless s bad x Q)
   both_check h a b t u (inl p) (inl q) = both_become refl refl a b t u p.1 q.1
   both_check h a b t u (inl p) (inr q) = absurd (q.0 p.0)

@@ -1,25 +1,25 @@
 -- What a call makes of the plan. Assumes nothing.
-use Rattle.std.proofs.Common.{◌≡◌, ℕ, ◌+◌, ◌<◌, ◌≤◌, Bool, true, false, ◌⊎◌, List, [], ◌∷◌, ◌++◌, refl, inl, inr, arith}
+use Rattle.std.proofs.Common.{◌≡◌, ℕ, ◌+◌, ◌<◌, ◌≤◌, true, false, ◌⊎◌, List, [], ◌∷◌, ◌++◌, refl, inl, inr, arith}
 use mathlib.Core.Path.{subst⁻¹}
-use Rattle.std.proofs.lemmas.Bool.{cases_eq, cases_lt}
+use Rattle.std.proofs.lemmas.Bool.{cases_eq, cases_lt, true_from_ne_false, false_from_ne_true}
 use Rattle.bounds.specs.declared.row.Row.{Row}
 use Rattle.delays.specs.Kind.{Kind, Exact}
 use Rattle.plans.specs.declared.fault.PlanFault.{PlanFault}
 use Rattle.plans.specs.Rows.{Times}
 use Rattle.plans.specs.Answers.{Call, settle, post, read, mark, keep, back, Answer, settled, covered, moved, time, slip, done, refused}
 use Rattle.plans.specs.States.{State, rows, depth, settling, posting, marking, closing, cutting, noted}
-use Rattle.plans.specs.Steps.{Ending, Becomes, Check, EachBound, Conflicts, Present, Step}
+use Rattle.plans.specs.Steps.{Ending, Becomes, Unless, Check, EachBound, Conflicts, Present, Step}
 use Rattle.plans.specs.Runs.{accepted}
 
 -- an answer that leaves the plan as it is: it accepts no bound, is no slip, and is not that of an accepted keep or back
-pub record Quiet {k : Kind} (c : Call) (a : Answer k) : Type 0 where
+pub record Unchanging {k : Kind} (c : Call) (a : Answer k) : Type 0 where
   pub accepts_none : accepted c a ≡ []
   pub no_slip : (number d : ℕ) → a ≡ slip number d → ⊥
   pub not_done : a ≡ done → ⊥
 
 -- how a call with its answer changes a plan
 pub data Change (k : Kind) (s : State) : Call → Answer k → State → Type 0 where
-  same : {c : Call} {a : Answer k} → Quiet c a → Change k s c a s
+  same : {c : Call} {a : Answer k} → Unchanging c a → Change k s c a s
   settles : {length count : ℕ} (x : ℕ → Exact k) → Times k s.points (rows s) x → s.settled ≡ false
       → Change k s (settle length) (settled count) (settling s)
   posts : {length count : ℕ} {b : Row} (x : ℕ → Exact k) → Times k s.points (rows s ++ b ∷ []) x → s.settled ≡ true → (s.book.free ≡ 0 → ⊥)
@@ -30,20 +30,12 @@ pub data Change (k : Kind) (s : State) : Call → Answer k → State → Type 0 
       → Change k s (back number d) done (cutting (noted s d) (closing d s))
 
 -- a refusal leaves the plan as it is
-refused_quiet : {k : Kind} (c : Call) (fault : PlanFault) → Quiet {k = k} c (refused fault)
-refused_quiet {k} c fault = record { accepts_none = none c; no_slip = λ number d e. cc; not_done = λ e. cc }
+refused_unchanging : {k : Kind} (c : Call) (fault : PlanFault) → Unchanging {k = k} c (refused fault)
+refused_unchanging {k} c fault = record { accepts_none = none c; no_slip = λ number d e. cc; not_done = λ e. cc }
   where
     none : (c : Call) → accepted {k = k} c (refused fault) ≡ []
     none (post length b) = refl
     none c = refl
-
-not_false : (b : Bool) → (b ≡ false → ⊥) → b ≡ true
-not_false true h = refl
-not_false false h = absurd (h refl)
-
-not_true : (b : Bool) → (b ≡ true → ⊥) → b ≡ false
-not_true false h = refl
-not_true true h = absurd (h refl)
 
 -- a slip that is not refused is present
 present : (s : State) (number d : ℕ) → ((Present s number d → ⊥) → ⊥) → Present s number d
@@ -64,14 +56,14 @@ module _ {k : Kind} {s : State} where
   becomes : (c : Call) {x a : Answer k} {v t : State} → Becomes x v a t → Change k s c x v → Change k s c a t
   becomes c {x} {a} {v} {t} p h = subst⁻¹ (λ (y : Answer k). Change k s c y t) p.0 (subst⁻¹ (λ (z : State). Change k s c x z) p.1 h)
 
-  -- a check with a quiet answer changes nothing
-  by_quiet : {c : Call} {bad : Type 0} {x : Answer k} {P : Ending k} → Quiet c x → ((bad → ⊥) → Makes k s c P)
-      → Makes k s c (λ a t. (bad × Becomes x s a t) ⊎ ((bad → ⊥) × P a t))
-  by_quiet {c} q f a t (inl p) = becomes c p.1 (same q)
-  by_quiet q f a t (inr p) = f p.0 a t p.1
+  -- a check with such an answer changes nothing
+  by_unchanging : {c : Call} {bad : Type 0} {x : Answer k} {P : Ending k} → Unchanging c x → ((bad → ⊥) → Makes k s c P)
+      → Makes k s c (Unless s bad x P)
+  by_unchanging {c} q f a t (inl p) = becomes c p.1 (same q)
+  by_unchanging q f a t (inr p) = f p.0 a t p.1
 
   by_check : {c : Call} {bad : Type 0} {x : PlanFault} {P : Ending k} → ((bad → ⊥) → Makes k s c P) → Makes k s c (Check s bad x P)
-  by_check {c} {x = x} = by_quiet (refused_quiet c x)
+  by_check {c} {x = x} = by_unchanging (refused_unchanging c x)
 
   by_bounds : {c : Call} (i : ℕ) (bounds : List Row) {P : Ending k} → Makes k s c P → Makes k s c (EachBound k s i bounds P)
   by_bounds i [] f = f
@@ -79,31 +71,31 @@ module _ {k : Kind} {s : State} where
 
   by_judge : {c : Call} (bounds : List Row) (next : (ℕ → Exact k) → Ending k)
       → ((x : ℕ → Exact k) → Times k s.points bounds x → Makes k s c (next x)) → Makes k s c (Conflicts k s bounds next)
-  by_judge {c} bounds next f a t (inl p) = becomes c p.2 (same (refused_quiet c _))
+  by_judge {c} bounds next f a t (inl p) = becomes c p.2 (same (refused_unchanging c _))
   by_judge bounds next f a t (inr p) = f p.0 p.1 a t p.2
 
   -- each call with its answer makes one of the changes
   pub change : (c : Call) → Makes k s c (Step k s c)
   change (settle length) =
       by_check (λ off. by_check (λ _. by_check (λ _. by_bounds 0 (rows s) (by_judge (rows s) _ (λ x e a t p.
-      becomes _ p (settles x e (not_true s.settled off)))))))
+      becomes _ p (settles x e (false_from_ne_true s.settled off)))))))
   change (post length b) =
-      by_check (λ on. by_check (λ _. by_check (λ _. by_check (λ _. by_check (λ _. by_quiet told (λ _. by_judge (rows s ++ b ∷ []) _ (λ x e.
-      by_check (λ some a t p. becomes _ p.2 (posts x e (not_false s.settled on) some)))))))))
+      by_check (λ on. by_check (λ _. by_check (λ _. by_check (λ _. by_check (λ _. by_unchanging told (λ _. by_judge (rows s ++ b ∷ []) _ (λ x e.
+      by_check (λ some a t p. becomes _ p.2 (posts x e (true_from_ne_false s.settled on) some)))))))))
     where
-      told : Quiet {k = k} (post length b) covered
+      told : Unchanging {k = k} (post length b) covered
       told = record { accepts_none = refl; no_slip = λ number d e. cc; not_done = λ e. cc }
   change (read p) = by_check (λ on. by_check (λ _ a t q. becomes _ q.2 (same told)))
     where
-      told : {x : Exact k} → Quiet {k = k} (read p) (time x)
+      told : {x : Exact k} → Unchanging {k = k} (read p) (time x)
       told = record { accepts_none = refl; no_slip = λ number d e. cc; not_done = λ e. cc }
-  change mark = by_check (λ on. by_check (λ _ a t p. becomes _ p (marks (not_false s.settled on))))
+  change mark = by_check (λ on. by_check (λ _ a t p. becomes _ p (marks (true_from_ne_false s.settled on))))
   change (keep number d) = by_check (λ on. by_check (λ h a t p.
       let o = present s number d h in let e : d ≡ depth s = o.depth_is in
-      becomes _ p (keeps o.number_is o.is_open (omega arith) (not_false s.settled on))))
+      becomes _ p (keeps o.number_is o.is_open (omega arith) (true_from_ne_false s.settled on))))
   change (back number d) = by_check (λ on. by_check (λ h a t p.
       let o = present s number d h in let e : d ≡ depth s = o.depth_is in
-      becomes _ p (backs o.number_is o.is_open (omega arith) (not_false s.settled on))))
+      becomes _ p (backs o.number_is o.is_open (omega arith) (true_from_ne_false s.settled on))))
 
 -- what an accepted mark makes of the plan
 pub record Opens (s : State) (number d : ℕ) (t : State) : Type 0 where

@@ -3,18 +3,17 @@ use Rattle.std.proofs.Common.{◌≡◌, ◌≢◌, ℕ, ◌<◌, ◌≤◌, tru
 use Rattle.std.specs.Result.{MatchResult, IsErrAnd}
 use Rattle.std.proofs.lemmas.Bool.{both_ways}
 use Rattle.bounds.specs.declared.row.Row.{Row}
-use Rattle.delays.specs.Kind.{Kind, Exact, Unread}
+use Rattle.delays.specs.Kind.{Kind, Unread}
 use Rattle.delays.specs.declared.fault.KindFault.{KindFault}
 use Rattle.delays.specs.declared.fault.KindFault.TheVariants.{Unread as unread}
 use Rattle.plans.specs.declared.fault.PlanFault.{PlanFault}
 use Rattle.plans.specs.declared.fault.PlanFault.TheVariants.{Unsettled, SettledAlready, Points, ListShort, Point, Kind as KindRefuses, Conflict, MarksFull, WrongSlip, Bound, Book}
-use Rattle.books.specs.declared.fault.BookFault.TheVariants.{Full}
 use Rattle.plans.specs.Faults.{of_kind, fault_of}
-use Rattle.plans.specs.Rows.{Covered, Times, moved_count}
+use Rattle.plans.specs.Rows.{moved_count}
 use Rattle.plans.specs.Misfits.{Misfit, RowsChecked}
-use Rattle.plans.specs.Answers.{Answer, settle, post, settled, covered, moved, refused}
-use Rattle.plans.specs.States.{State, rows, settling, posting}
-use Rattle.plans.specs.Steps.{Ending, Becomes, Check, Conflicts, Step}
+use Rattle.plans.specs.Answers.{Answer, settle, post, settled, refused}
+use Rattle.plans.specs.States.{State, rows, settling}
+use Rattle.plans.specs.Steps.{Becomes, Conflicts, PostDecided, Step}
 use Rattle.plans.specs.Runs.{Tries}
 use Rattle.plans.specs.Plans.{Refused}
 use Rattle.plans.proofs.Misfitting.{each_bound_fits, each_bound_refused}
@@ -93,16 +92,9 @@ module _ (k : Kind) (s : State) {length : ℕ} where
     no_conflict = misfit_no_conflict k s.points h.0 _ e (h.1.here (record { left = 0; right = 0; t = pos 0; s = pos 0 }));
   }
 
-module _ (k : Kind) (s : State) (b : Row) where
-  -- what decides a post that passes its checks: a cover, or else whether there is a conflict and a free place
-  abbrev pub Decides : Ending k
-  Decides a t = (Covered k (rows s) b × Becomes covered s a t) ⊎ ((Covered k (rows s) b → ⊥)
-      × Conflicts k s (rows s ++ b ∷ []) (λ x.
-      Check s (s.book.free ≡ 0) (Book Full)
-      (λ a t. (old : ℕ → Exact k) × Times k s.points (rows s) old × Becomes (moved (moved_count k s.points old x)) (posting b s) a t)) a t)
-
 module _ (k : Kind) (s : State) (length : ℕ) (b : Row) where
-  pub post_decided : {bounds : List Row} → Tries k s (post length b) bounds → (a : Answer k) (t : State) → Decides k s b a t → Step k s (post length b) a t
+  -- and so is a post, by whether it is covered, and else by whether there is a conflict and a free place
+  pub post_decided : {bounds : List Row} → Tries k s (post length b) bounds → (a : Answer k) (t : State) → PostDecided k s b a t → Step k s (post length b) a t
   post_decided h a t d =
       let fit = h.1 in
       inr (

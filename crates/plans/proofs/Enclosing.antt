@@ -9,8 +9,8 @@ use Rattle.delays.specs.Kind.{Kind}
 use Rattle.books.specs.Meaning.{Meaning, with_bounds, cut_to}
 use Rattle.plans.specs.Answers.{Call, Answer}
 use Rattle.plans.specs.States.{State, depth, marking, closing, cutting, noted}
-use Rattle.plans.specs.Runs.{Said, Run, rests, goes, Unmarked}
-use Rattle.plans.proofs.Parting.{OpensNone, low_run}
+use Rattle.plans.specs.Runs.{Said, Run, rests, goes, OpensNone, Unmarked}
+use Rattle.plans.proofs.Parting.{low_run}
 use Rattle.plans.proofs.Changing.{Change, same, settles, posts, marks, keeps, backs, change}
 
 -- from place n on, each of the counts is at least low
@@ -26,30 +26,30 @@ high_push low n counts x h up i l m = go (cases_lt i (length counts))
     go (inr b) = let e : i ≡ length counts = omega (arith, length-append counts (x ∷ [])) in rw (e, get_or-append_seam counts x [] 0) up
 
 -- all that stood in the old book stands first in the new one
-record BookInside (old new : Meaning) : Type 0 where
+record BookKept (old new : Meaning) : Type 0 where
   fixed_is : new.fixed ≡ old.fixed
   long : length old.added ≤ length new.added
   added_is : take (length old.added) new.added ≡ old.added
   room : new.free + length new.added ≡ old.free + length old.added
 
 -- of the marks, the old ones stand first, then one that noted this count, and then those that noted that or more
-record MarksInside (count : ℕ) (old new : List ℕ) : Type 0 where
+record MarksKept (count : ℕ) (old new : List ℕ) : Type 0 where
   deep : length old < length new
   marks_is : take (length old) new ≡ old
   here : get_or new (length old) 0 ≡ count
   high : High count (length old) new
 
 -- the plan u, with the mark still open that was opened at the plan s
-pub record Inside (s u : State) : Type 0 where
+pub record Enclosed (s u : State) : Type 0 where
   points_is : u.points ≡ s.points
   number_is : u.number ≡ s.number
   settled_is : u.settled ≡ true
-  book : BookInside s.book u.book
-  marks : MarksInside (length s.book.added) s.marks u.marks
+  book : BookKept s.book u.book
+  marks : MarksKept (length s.book.added) s.marks u.marks
 
-module _ {old new : Meaning} (i : BookInside old new) where
+module _ {old new : Meaning} (i : BookKept old new) where
   -- a bound more
-  book_added : (b : Row) → (new.free ≡ 0 → ⊥) → BookInside old (with_bounds new (b ∷ []))
+  book_added : (b : Row) → (new.free ≡ 0 → ⊥) → BookKept old (with_bounds new (b ∷ []))
   book_added b some = let more = length-append new.added (b ∷ []) in let long = i.long in record {
     fixed_is = i.fixed_is;
     long = omega (arith, more);
@@ -58,7 +58,7 @@ module _ {old new : Meaning} (i : BookInside old new) where
   }
 
   -- a cut that leaves what stood in the old book
-  book_cut : (m : ℕ) → length old.added ≤ m → BookInside old (cut_to new m)
+  book_cut : (m : ℕ) → length old.added ≤ m → BookKept old (cut_to new m)
   book_cut m h = let left = length-take m new.added in record {
     fixed_is = i.fixed_is;
     long = omega (arith, left, i.long);
@@ -66,9 +66,9 @@ module _ {old new : Meaning} (i : BookInside old new) where
     room = omega (arith, left, i.room);
   }
 
-module _ {count : ℕ} {old new : List ℕ} (i : MarksInside count old new) where
+module _ {count : ℕ} {old new : List ℕ} (i : MarksKept count old new) where
   -- a mark more
-  marks_more : (x : ℕ) → count ≤ x → MarksInside count old (new ++ x ∷ [])
+  marks_more : (x : ℕ) → count ≤ x → MarksKept count old (new ++ x ∷ [])
   marks_more x up = let deep = i.deep in record {
     deep = omega (arith, length-append new (x ∷ []));
     marks_is = take-append-le (length old) new (x ∷ []) (omega arith) ∙ i.marks_is;
@@ -77,7 +77,7 @@ module _ {count : ℕ} {old new : List ℕ} (i : MarksInside count old new) wher
   }
 
   -- a mark opened since is closed
-  marks_fewer : (m : ℕ) → length old < m → m ≤ length new → MarksInside count old (take m new)
+  marks_fewer : (m : ℕ) → length old < m → m ≤ length new → MarksKept count old (take m new)
   marks_fewer m h l = let left : length (take m new) ≡ m = length-take-le m new l in record {
     deep = omega arith;
     marks_is = take-take (length old) m new (omega arith) ∙ i.marks_is;
@@ -86,8 +86,8 @@ module _ {count : ℕ} {old new : List ℕ} (i : MarksInside count old new) wher
   }
 
 -- a mark that was just opened
-pub inside_first : {s : State} → s.settled ≡ true → Inside s (marking s)
-inside_first {s} f = let count = length s.book.added in record {
+pub enclosed_first : {s : State} → s.settled ≡ true → Enclosed s (marking s)
+enclosed_first {s} f = let count = length s.book.added in record {
   points_is = refl;
   number_is = refl;
   settled_is = f;
@@ -101,12 +101,12 @@ inside_first {s} f = let count = length s.book.added in record {
 }
 
 -- a change of the book and of the marks alone
-inside_same : {s u : State} (book : Meaning) (counts : List ℕ) → Inside s u → BookInside s.book book → MarksInside (length s.book.added) s.marks counts
-    → Inside s (record { book = book; points = u.points; number = u.number; settled = u.settled; marks = counts })
-inside_same book counts i b m = record { points_is = i.points_is; number_is = i.number_is; settled_is = i.settled_is; book = b; marks = m }
+enclosed_same : {s u : State} (book : Meaning) (counts : List ℕ) → Enclosed s u → BookKept s.book book → MarksKept (length s.book.added) s.marks counts
+    → Enclosed s (record { book = book; points = u.points; number = u.number; settled = u.settled; marks = counts })
+enclosed_same book counts i b m = record { points_is = i.points_is; number_is = i.number_is; settled_is = i.settled_is; book = b; marks = m }
 
 -- the back to the mark itself
-pub back_restores : {s u : State} → Inside s u → s.settled ≡ true → (d : ℕ) → d ≡ depth s + 1 → cutting (noted u d) (closing d u) ≡ s
+pub back_restores : {s u : State} → Enclosed s u → s.settled ≡ true → (d : ℕ) → d ≡ depth s + 1 → cutting (noted u d) (closing d u) ≡ s
 back_restores {s} {u} i f d h =
     let e : d - 1 ≡ depth s = omega arith in
     let at : noted u d ≡ length s.book.added = ap (λ (j : ℕ). get_or u.marks j 0) e ∙ i.marks.here in
@@ -121,27 +121,27 @@ back_restores {s} {u} i f d h =
 
 module _ {k : Kind} {s : State} where
   -- a call leaves the mark open, or closes it
-  inside_change : {u v : State} {c : Call} {a : Answer k} → Change k u c a v → Inside s u → Inside s v ⊎ (depth v < depth s + 1)
-  inside_change (same q) i = inl i
-  inside_change {u} (settles x e f) i = absurd (both_ways u.settled f i.settled_is)
-  inside_change {u} (posts {b = b} x e f g) i = inl (inside_same _ _ i (book_added i.book b g) i.marks)
-  inside_change {u} (marks f) i = inl (inside_same _ _ i i.book (marks_more i.marks (length u.book.added) i.book.long))
-  inside_change {u} (keeps {d = d} e l m f) i = go (cases_lt (depth s + 1) d)
+  enclosed_change : {u v : State} {c : Call} {a : Answer k} → Change k u c a v → Enclosed s u → Enclosed s v ⊎ (depth v < depth s + 1)
+  enclosed_change (same q) i = inl i
+  enclosed_change {u} (settles x e f) i = absurd (both_ways u.settled f i.settled_is)
+  enclosed_change {u} (posts {b = b} x e f g) i = inl (enclosed_same _ _ i (book_added i.book b g) i.marks)
+  enclosed_change {u} (marks f) i = inl (enclosed_same _ _ i i.book (marks_more i.marks (length u.book.added) i.book.long))
+  enclosed_change {u} (keeps {d = d} e l m f) i = go (cases_lt (depth s + 1) d)
     where
-      go : (depth s + 1 < d) ⊎ (d ≤ depth s + 1) → Inside s (closing d u) ⊎ (depth (closing d u) < depth s + 1)
-      go (inl h) = inl (inside_same _ _ i i.book (marks_fewer i.marks (d - 1) (omega arith) (omega arith)))
+      go : (depth s + 1 < d) ⊎ (d ≤ depth s + 1) → Enclosed s (closing d u) ⊎ (depth (closing d u) < depth s + 1)
+      go (inl h) = inl (enclosed_same _ _ i i.book (marks_fewer i.marks (d - 1) (omega arith) (omega arith)))
       go (inr h) = inr (omega (arith, length-take (d - 1) u.marks))
-  inside_change {u} (backs {d = d} e l m f) i = go (cases_lt (depth s + 1) d)
+  enclosed_change {u} (backs {d = d} e l m f) i = go (cases_lt (depth s + 1) d)
     where
-      go : (depth s + 1 < d) ⊎ (d ≤ depth s + 1) → Inside s (cutting (noted u d) (closing d u)) ⊎ (depth (closing d u) < depth s + 1)
-      go (inl h) = inl (inside_same _ _ i (book_cut i.book (noted u d) (i.marks.high (d - 1) (omega arith) (omega arith)))
+      go : (depth s + 1 < d) ⊎ (d ≤ depth s + 1) → Enclosed s (cutting (noted u d) (closing d u)) ⊎ (depth (closing d u) < depth s + 1)
+      go (inl h) = inl (enclosed_same _ _ i (book_cut i.book (noted u d) (i.marks.high (d - 1) (omega arith) (omega arith)))
           (marks_fewer i.marks (d - 1) (omega arith) (omega arith)))
       go (inr h) = inr (omega (arith, length-take (d - 1) u.marks))
 
   -- calls that open no mark at its depth keep the mark open, or close it for good
-  pub inside_run : {u v : State} (xs : List (Said k)) → Run k u xs v → Unmarked (depth s + 1) xs → Inside s u ⊎ (depth u < depth s + 1)
-      → Inside s v ⊎ (depth v < depth s + 1)
-  inside_run [] rests n h = h
-  inside_run (x ∷ xs) (goes {t = v} {c = c} {a = a} p r) n (inl i) =
-      inside_run xs r (All-tail (OpensNone (depth s + 1)) x xs n) (inside_change (change c a v p) i)
-  inside_run (x ∷ xs) r n (inr l) = inr (low_run (depth s + 1) (x ∷ xs) r n l)
+  pub enclosed_run : {u v : State} (xs : List (Said k)) → Run k u xs v → Unmarked (depth s + 1) xs → Enclosed s u ⊎ (depth u < depth s + 1)
+      → Enclosed s v ⊎ (depth v < depth s + 1)
+  enclosed_run [] rests n h = h
+  enclosed_run (x ∷ xs) (goes {t = v} {c = c} {a = a} p r) n (inl i) =
+      enclosed_run xs r (All-tail (OpensNone (depth s + 1)) x xs n) (enclosed_change (change c a v p) i)
+  enclosed_run (x ∷ xs) r n (inr l) = inr (low_run (depth s + 1) (x ∷ xs) r n l)

@@ -3,7 +3,7 @@ use Rattle.std.proofs.Common.{◌≡◌, ℕ, suc, ◌+◌, ◌-◌, ◌*◌, �
 use Rattle.std.proofs.lemmas.Bool.{cases_eq, cases_lt}
 use Rattle.std.specs.List.{All, Contains}
 use Rattle.std.proofs.lemmas.List.{map-append, length-map, get_or-map, get_or_append_left}
-use Rattle.std.proofs.lemmas.List.Elements.{All-nil, All-cons, All-head, All-tail, All-append, All-weaker, All-contains, All-contains_itself, Contains-get_or, Contains-append_left, Contains-append_right}
+use Rattle.std.proofs.lemmas.List.Elements.{All-nil, All-cons, All-head, All-tail, All-append, Contains-get_or}
 use Rattle.bounds.specs.declared.row.Row.{Row}
 use Rattle.bounds.specs.declared.bound.Bound.{Bound}
 use Rattle.bounds.specs.Making.{row_of}
@@ -11,6 +11,7 @@ use Rattle.delays.specs.Kind.{Kind, Lawful}
 use Rattle.network.specs.Bounds.{Bounds, floor_of}
 use Rattle.network.specs.Chains.{ChainIn}
 use Rattle.network.proofs.InForce.{floor_held}
+use Rattle.network.proofs.Shortening.{all_front, all_back}
 use Rattle.network.proofs.Turning.{chain_turns}
 use Rattle.network.proofs.Walking.{chain_refutes}
 use Rattle.plans.specs.Rows.{exact_of, force, Solvable}
@@ -18,13 +19,6 @@ use Rattle.plans.specs.Questions.{numbered, posted_rows}
 use Rattle.plans.specs.Conflicts.{ChainWritten}
 use Rattle.plans.specs.Trails.{ChainOf, TurnedTo, WordsWritten}
 use Rattle.plans.proofs.Numbering.{edges_length, numbered_row, numbered_floor}
-
--- what holds of each element of a list holds of those of its parts
-all_front : {X : Type 0} (P : X → Type 0) (xs ys : List X) → All P (xs ++ ys) → All P xs
-all_front P xs ys a = All-weaker (Contains xs) P (λ x h. All-contains P (xs ++ ys) x a (Contains-append_left xs ys x h)) xs (All-contains_itself xs)
-
-all_back : {X : Type 0} (P : X → Type 0) (xs ys : List X) → All P (xs ++ ys) → All P ys
-all_back P xs ys a = All-weaker (Contains ys) P (λ x h. All-contains P (xs ++ ys) x a (Contains-append_right xs ys x h)) ys (All-contains_itself ys)
 
 -- a turned chain is a chain
 pub chain_turned : {k : Kind} → Lawful k → (edges : Bounds k) (n number : ℕ) (before after : List ℕ) → TurnedTo number before after → ChainOf k edges n before

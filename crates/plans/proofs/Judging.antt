@@ -13,15 +13,16 @@ use Rattle.network.specs.Earliest.{Earliest}
 use Rattle.network.proofs.Orders.{sum_orders}
 use Rattle.network.proofs.Turning.{posted_either}
 use Rattle.network.proofs.Theorems.{chain_theory, earliest_theory}
-use Rattle.books.specs.declared.fault.BookFault.TheVariants.{Full}
 use Rattle.plans.specs.declared.fault.PlanFault.{PlanFault}
-use Rattle.plans.specs.declared.fault.PlanFault.TheVariants.{Conflict, Book}
-use Rattle.plans.specs.Rows.{exact_of, force, Fit, Covers, Covered, Solvable, Times, moved_count}
-use Rattle.plans.specs.Answers.{settle, post, read, mark, keep, back, Answer, covered, moved, time, refused}
-use Rattle.plans.specs.States.{State, rows, posting}
-use Rattle.plans.specs.Steps.{Ending, Becomes, Check, EachBound, Conflicts, Step}
+use Rattle.plans.specs.declared.fault.PlanFault.TheVariants.{Conflict}
+use Rattle.plans.specs.Rows.{exact_of, force, Fit, Covers, Covered, Solvable}
+use Rattle.plans.specs.Answers.{settle, post, read, mark, keep, back, Answer, covered, time, refused}
+use Rattle.plans.specs.States.{State, rows}
+use Rattle.plans.specs.Steps.{Ending, Unless, Check, EachBound, Conflicts, PostAdded, Step}
 use Rattle.plans.specs.Runs.{Opened, IsConflict, Judged, ConflictsTrue, ReadsLeast}
-use Rattle.plans.proofs.SoundPlans.{settled_timed}
+use Rattle.plans.proofs.Timing.{settled_timed}
+use Rattle.plans.proofs.Misfitting.{inside}
+use Rattle.plans.proofs.Least.{times_least}
 
 -- a row of the book is in force
 pub row_in_force : (k : Kind) (n : ℕ) (rows : List Row) (r : Row) → Contains rows r → Contains (force k n rows) (exact_of k r)
@@ -61,18 +62,13 @@ module _ {k : Kind} (laws : Lawful k) where
   pass bounds h f a t (inl p) = absurd (h p.0)
   pass bounds h f a t (inr p) = f a t p.1
 
-  -- a bound that fits has both points
-  outside : (n : ℕ) (b : Row) → Fit k n b → (n ≤ b.left) ⊎ (n ≤ b.right) → ⊥
-  outside n b h (inl o) = let l : b.left < n = h.left in omega arith
-  outside n b h (inr o) = let l : b.right < n = h.right in omega arith
-
   -- bounds that all fit pass their checks
   pass_bounds : {n : ℕ} (all : List Row) (s : State) (i : ℕ) (bounds : List Row) {P : Ending k} → All (Fit k s.points) bounds → Gives n all P
       → Gives n all (EachBound k s i bounds P)
   pass_bounds all s i [] h f = f
   pass_bounds all s i (b ∷ bounds) h f =
       let first = All-head (Fit k s.points) b bounds h in
-      pass all (outside s.points b first) (pass all first.read (pass_bounds all s (i + 1) bounds (All-tail (Fit k s.points) b bounds h) f))
+      pass all (inside s.points b first.left first.right) (pass all first.read (pass_bounds all s (i + 1) bounds (All-tail (Fit k s.points) b bounds h) f))
 
   -- bounds that are met give no conflict
   met : (n : ℕ) (bounds : List Row) {a : Answer k} → Solvable k n bounds → (IsConflict a → ⊥) → Judged k n bounds a
@@ -100,14 +96,13 @@ module _ {k : Kind} (laws : Lawful k) where
 
   -- a post that is covered
   cover_judged : (t : State) (b : Row) → Solvable k t.points (rows t) → {P : Ending k} → Gives t.points (rows t ++ b ∷ []) P
-      → Gives t.points (rows t ++ b ∷ []) (λ a u. (Covered k (rows t) b × Becomes covered t a u) ⊎ ((Covered k (rows t) b → ⊥) × P a u))
+      → Gives t.points (rows t ++ b ∷ []) (Unless t (Covered k (rows t) b) covered P)
   cover_judged t b now f a u (inl p) =
       met t.points (rows t ++ b ∷ []) (covers_solvable t.points (rows t) b p.0 now) (λ c. let e = p.1.0 in let f = c.1 in cc)
   cover_judged t b now f a u (inr p) = f a u p.1
 
   -- past the check for a conflict, a full book and a count of moved points are none
-  no_conflict : (t : State) (b : Row) (x : ℕ → Exact k) (a : Answer k) (u : State) → Check t (t.book.free ≡ 0) (Book Full) (λ a u.
-      (old : ℕ → Exact k) × Times k t.points (rows t) old × Becomes (moved (moved_count k t.points old x)) (posting b t) a u) a u → IsConflict a → ⊥
+  no_conflict : (t : State) (b : Row) (x : ℕ → Exact k) (a : Answer k) (u : State) → PostAdded k t b x a u → IsConflict a → ⊥
   no_conflict t b x a u (inl p) c = let e = p.1.0 in let f = c.1 in cc
   no_conflict t b x a u (inr p) c = let e = p.1.2.0 in let f = c.1 in cc
 
@@ -115,7 +110,7 @@ module _ {k : Kind} (laws : Lawful k) where
   post_judged : (t : State) (len : ℕ) (b : Row) → t.settled ≡ true → Fit k t.points b → t.points ≤ len → Solvable k t.points (rows t)
       → Gives t.points (rows t ++ b ∷ []) (Step k t (post len b))
   post_judged t len b on fit long now = let all = rows t ++ b ∷ [] in
-      pass all (λ off. both_ways t.settled off on) (pass all (λ l. outside t.points b fit (inl l)) (pass all (λ l. outside t.points b fit (inr l))
+      pass all (λ off. both_ways t.settled off on) (pass all (λ l. inside t.points b fit.left fit.right (inl l)) (pass all (λ l. inside t.points b fit.left fit.right (inr l))
       (pass all fit.read (pass all (λ l. omega arith) (cover_judged t b now (judged all _ (no_conflict t b)))))))
 
   -- a conflict exactly when no assignment meets the bounds in question
@@ -133,8 +128,7 @@ module _ {k : Kind} (laws : Lawful k) where
   pub reads_least : (s : State) → Opened s → ReadsLeast k s
   reads_least s o t xs r f = let h = settled_timed o r f in let e = h.1.earliest in record {
     times = h.0;
-    solution = h.1.solution;
-    least = λ y z p l. (earliest_theory laws).least (force k t.points (rows t)) p (h.0 p) (e p l) y z;
+    least = times_least laws t.points (rows t) h.0 h.1;
     reads = λ p a u l q. read_is p a u l q (h.0 p) (e p l);
   }
     where

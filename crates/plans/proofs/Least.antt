@@ -8,8 +8,7 @@ use Rattle.delays.specs.Kind.{Kind, Exact, Lawful}
 use Rattle.network.specs.Bounds.{Inside}
 use Rattle.network.specs.Earliest.{Earliest}
 use Rattle.network.proofs.Theorems.{chain_theory, earliest_theory, consistency}
-use Rattle.plans.specs.Rows.{exact_of, force, Fit, Times}
-use Rattle.plans.specs.Soundness.{Least}
+use Rattle.plans.specs.Rows.{exact_of, force, Fit, Times, Least}
 use Rattle.plans.specs.Answers.{read, time}
 use Rattle.plans.specs.States.{State, rows}
 use Rattle.plans.specs.Steps.{Step}

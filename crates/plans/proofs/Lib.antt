@@ -4,7 +4,7 @@ pub mod Checked
 pub mod Solving
 pub mod Agreeing
 pub mod Changing
-pub mod SoundPlans
+pub mod Timing
 pub mod Judging
 pub mod Parting
 pub mod Enclosing
@@ -18,7 +18,7 @@ pub mod Starting
 pub mod Tallies
 pub mod Smallness
 pub mod Rounding
-pub mod Stories
+pub mod Histories
 pub mod Progressing
 pub mod Waiting
 pub mod Spreading

@@ -6,22 +6,22 @@ use Rattle.delays.specs.Kind.{Kind}
 use Rattle.delays.specs.declared.fault.KindFault.TheVariants.{Unread as unread}
 use Rattle.plans.specs.declared.fault.PlanFault.{PlanFault}
 use Rattle.plans.specs.declared.fault.PlanFault.TheVariants.{Unsettled, SettledAlready, Points, ListShort, Point, Kind as KindRefuses, Conflict, MarksFull, WrongSlip, Bound, Book}
-use Rattle.plans.specs.Rows.{Fit}
-use Rattle.plans.specs.Misfits.{Outside, Misfit, FitBefore, RowsChecked}
+use Rattle.plans.specs.Rows.{Fit, Outside}
+use Rattle.plans.specs.Misfits.{Misfit, FitBefore, RowsChecked}
 use Rattle.plans.specs.Answers.{Answer, refused}
 use Rattle.plans.specs.States.{State, rows}
 use Rattle.plans.specs.Steps.{Ending, EachBound}
 
-module _ (k : Kind) (s : State) (next : Ending k) where
-  -- points that are below the plan's are not outside
-  inside : (r : Row) → r.left < s.points → r.right < s.points → Outside k s.points r → ⊥
-  inside r l m = ⊎_elim (λ h. let e : ⊥ = omega arith in e) (λ h. let e : ⊥ = omega arith in e)
+-- a row with both points below n is not outside
+pub inside : (n : ℕ) (r : Row) → r.left < n → r.right < n → Outside n r → ⊥
+inside n r l m = ⊎_elim (λ h. let e : ⊥ = omega arith in e) (λ h. let e : ⊥ = omega arith in e)
 
+module _ (k : Kind) (s : State) (next : Ending k) where
   each_fits : (a : Answer k) (t : State) (i : ℕ) (bs : List Row) → All (Fit k s.points) bs → next a t → EachBound k s i bs next a t
   each_fits a t i [] fit then = then
   each_fits a t i (b ∷ bs) fit then =
       let here : Fit k s.points b = fit 0 b (omega arith) in
-      inr (inside b here.left here.right, inr (here.read, each_fits a t (i + 1) bs (λ j d h. fit (suc j) d (omega arith)) then))
+      inr (inside s.points b here.left here.right, inr (here.read, each_fits a t (i + 1) bs (λ j d h. fit (suc j) d (omega arith)) then))
 
   module _ (fault : PlanFault) (a : Answer k) (t : State) (answer : a ≡ refused fault) (same : t ≡ s) where
     -- the row that does not fit is refused
@@ -29,7 +29,7 @@ module _ (k : Kind) (s : State) (next : Ending k) where
     refused_here (Point place) m i b bs f e h = inl (h.1, (answer ∙ sym (ap refused f) ∙ ap (λ p. refused (Point p)) (h.0 ∙ e), same))
     refused_here (KindRefuses unread place) m i b bs f e h =
         let why = h.1 in
-        inr (inside b why.left why.right, inl (why.unread, (answer ∙ sym (ap refused f) ∙ ap (λ p. refused (KindRefuses unread p)) (h.0 ∙ e), same)))
+        inr (inside s.points b why.left why.right, inl (why.unread, (answer ∙ sym (ap refused f) ∙ ap (λ p. refused (KindRefuses unread p)) (h.0 ∙ e), same)))
     refused_here Unsettled m i b bs f e h = absurd h
     refused_here SettledAlready m i b bs f e h = absurd h
     refused_here Points m i b bs f e h = absurd h
@@ -47,7 +47,7 @@ module _ (k : Kind) (s : State) (next : Ending k) where
         let here : Fit k s.points b = h.before 0 b (omega arith) in
         let low : suc j < length (b ∷ bs) = h.number in
         inr (
-          inside b here.left here.right,
+          inside s.points b here.left here.right,
           inr (
             here.read,
             each_misfit m (i + 1) j bs (omega arith) (record {

@@ -6,12 +6,8 @@ use Rattle.std.proofs.lemmas.Bool.{cases_eq}
 use Rattle.delays.specs.Kind.{Kind}
 use Rattle.plans.specs.Answers.{Call, mark, Answer, slip}
 use Rattle.plans.specs.States.{State, depth, marking}
-use Rattle.plans.specs.Runs.{Said, Run, rests, goes, Unmarked, MarkOf}
+use Rattle.plans.specs.Runs.{Said, Run, rests, goes, OpensNone, Unmarked, MarkOf}
 use Rattle.plans.proofs.Changing.{Change, same, settles, posts, marks, keeps, backs, change, opens}
-
--- the call with its answer opens no mark at depth d
-abbrev pub OpensNone : {k : Kind} → ℕ → Said k → Type 0
-OpensNone d x = (number : ℕ) → x ≡ (mark, slip number d) → ⊥
 
 module _ {k : Kind} where
   -- a run goes through a plan between two parts

@@ -1,5 +1,5 @@
 -- What rounds keep, and what they come to when no point waits. Assumes nothing.
-use Rattle.std.proofs.Common.{◌≡◌, ℕ, zero, suc, ◌+◌, ◌*◌, ◌<◌, ◌≤◌, Bool, true, false, ◌≢◌, List, [], length, get_or, set, refl, ap, ◌∙◌, subst, ⊎_elim, suc-mul, arith}
+use Rattle.std.proofs.Common.{◌≡◌, ℕ, zero, suc, ◌+◌, ◌*◌, ◌<◌, ◌≤◌, Bool, true, false, ◌≢◌, List, [], length, get_or, set, refl, ap, ◌∙◌, ⊎_elim, suc-mul, arith}
 use Rattle.std.specs.List.{All, Contains}
 use Rattle.std.proofs.lemmas.List.Elements.{All-get_or, All-from_get_or}
 use Rattle.std.proofs.lemmas.List.{get_or-set_same, get_or-set_other}
@@ -16,18 +16,17 @@ use Rattle.network.proofs.Theorems.{earliest_theory}
 use Rattle.plans.specs.declared.label.Label.{Label}
 use Rattle.plans.specs.Questions.{numbered}
 use Rattle.plans.specs.Labels.{label_time, label_via, label_waits, noted_via}
-use Rattle.plans.specs.Rounds.{Round, Relaxed, Story, Quiet, Progress}
+use Rattle.plans.specs.Rounds.{Round, Relaxed, History, Quiet, Progress}
 use Rattle.plans.proofs.Smallness.{Small}
-use Rattle.plans.proofs.Stories.{in_points, story_more, quiet_next, reached_next}
+use Rattle.plans.proofs.Histories.{in_points, history_more, quiet_next, reached_next}
 
 module _ {k : Kind} (laws : Lawful k) where
   -- times only rise from round to round
-  story_rises : {edges : Bounds k} {n done : ℕ} {begun : ℕ → Bool} {start : ℕ → Exact k} {via : ℕ → ℕ → ℕ} {time : ℕ → Exact k} {waits : ℕ → Bool}
-      (s : Story k edges n done begun start via time waits) (j p : ℕ) → j ≤ done → p < n → Le k (s.times 0 p) (s.times j p)
-  story_rises s zero p h l = laws.reflexive (s.times 0 p)
-  story_rises s (suc j) p h l =
-      let last : j + 1 ≡ suc j = omega arith in
-      laws.transitive _ _ _ (story_rises s j p (omega arith) l) (subst (λ (a : ℕ). Le k (s.times j p) (s.times a p)) last (s.rise j p (omega arith) l))
+  pub rises_by : {edges : Bounds k} {n done : ℕ} {begun : ℕ → Bool} {start : ℕ → Exact k} {via : ℕ → ℕ → ℕ} {time : ℕ → Exact k} {waits : ℕ → Bool}
+      (s : History k edges n done begun start via time waits) (i d j : ℕ) → i + d ≡ j → j ≤ done → (p : ℕ) → p < n → Le k (s.times i p) (s.times j p)
+  rises_by s i zero j e h p l = let same : i ≡ j = omega arith in rw same (laws.reflexive (s.times j p))
+  rises_by s i (suc d) j e h p l =
+      laws.transitive (s.times i p) (s.times (i + 1) p) (s.times j p) (s.rise i p (omega arith) l) (rises_by s (i + 1) d j (omega arith) h p l)
 
   -- times that meet bounds, all moved by one delay, meet them too
   meets_moved : (t : ℕ → Exact k) (o : Exact k) (edges : Bounds k) → ((i : ℕ) → i < length edges → Meets k t (numbered edges i))
@@ -50,8 +49,8 @@ module _ {k : Kind} (laws : Lawful k) where
       let down : Le k (k.opposite (sum_of k r.row)) k.zero = opposite_at_most laws k.zero (sum_of k r.row) sum in
       laws.antisymmetric _ _ (rw r.value down) up
 
-story_none : {k : Kind} (edges : Bounds k) (n : ℕ) (via : ℕ → ℕ → ℕ) (time : ℕ → Exact k) (waits : ℕ → Bool) → Story k edges n 0 waits time via time waits
-story_none edges n via time waits = record {
+history_none : {k : Kind} (edges : Bounds k) (n : ℕ) (via : ℕ → ℕ → ℕ) (time : ℕ → Exact k) (waits : ℕ → Bool) → History k edges n 0 waits time via time waits
+history_none edges n via time waits = record {
   times = λ j. time;
   first = λ p l. refl;
   last = λ p l. refl;
@@ -66,7 +65,7 @@ module _ {X : Type 0} {k : Kind} (laws : Lawful k) (means : X → Exact k) (edge
       → ((p : ℕ) → p < n → Reached k edges p (label_time k means labels p))
       → ((p : ℕ) → p < n → k.size (label_time k means labels p) ≤ 128 * k.greatest) → Progress k edges means n labels labels via 0
   progress_none labels via quiet reached near = record {
-    story = story_none edges n (noted_via via) (label_time k means labels) (label_waits labels);
+    history = history_none edges n (noted_via via) (label_time k means labels) (label_waits labels);
     quiet = quiet;
     reached = reached;
     near = near;
@@ -106,8 +105,8 @@ module _ {X : Type 0} {k : Kind} (laws : Lawful k) (means : X → Exact k) (edge
         → Progress k edges means n from old via done → Relaxed k edges means n (length edges) old new → ((p : ℕ) → p < n → get_or row p 0 ≡ label_via new p)
         → Progress k edges means n from new (set via done row) (done + 1)
     progress_more done from old new via row room h r here = record {
-      story =
-          story_more laws edges n inside h.story r (λ j p l m. let ne : j ≢ done = omega arith in rw (get_or-set_other via done j row [] ne) refl)
+      history =
+          history_more laws edges n inside h.history r (λ j p l m. let ne : j ≢ done = omega arith in rw (get_or-set_other via done j row [] ne) refl)
           (λ p m. rw (get_or-set_same via done row [] room) (here p m));
       quiet = quiet_next laws edges n inside r h.quiet;
       reached = reached_next laws edges n inside r h.reached;
@@ -121,7 +120,7 @@ module _ {X : Type 0} {k : Kind} (laws : Lawful k) (means : X → Exact k) (edge
     met i l = h.quiet i l (still _ (in_points edges n inside i l).left)
 
     above : Le k k.zero (label_time k means labels 0)
-    above = rw (h.story.last 0 some, h.story.first 0 some, zero_at) at (story_rises laws h.story done 0 (omega arith) some)
+    above = rw (h.history.last 0 some, h.history.first 0 some, zero_at) at (rises_by laws h.history 0 done done (omega arith) (omega arith) 0 some)
 
     pub rest_solution : Solution k edges (label_time k means labels)
     rest_solution = record {

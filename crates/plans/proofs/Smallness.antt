@@ -4,7 +4,7 @@ use Rattle.std.specs.Prelude.{unsigned_abs}
 use Rattle.std.specs.List.{All}
 use Rattle.std.proofs.lemmas.Bool.{cases_lt}
 use Rattle.std.proofs.lemmas.Int.{ints}
-use Rattle.std.proofs.lemmas.List.Elements.{All-nil, All-cons, All-append, All-map, All-weaker, All-get_or}
+use Rattle.std.proofs.lemmas.List.Elements.{All-nil, All-cons, All-append, All-map, All-get_or}
 use Rattle.bounds.specs.declared.row.Row.{Row}
 use Rattle.bounds.specs.Range.{Part, Sound}
 use Rattle.bounds.specs.declared.bound.Bound.{Bound}
@@ -19,6 +19,7 @@ use Rattle.plans.specs.Rows.{Fit, exact_of, force}
 use Rattle.plans.specs.declared.question.Question.{Question}
 use Rattle.plans.specs.Questions.{book_rows, posted_rows, question_rows, in_question, numbered}
 use Rattle.plans.proofs.Numbering.{value_of, edges_length}
+use Rattle.plans.proofs.Least.{fit_inside}
 
 part_small : (z : ℤ) → Part z → unsigned_abs z ≤ small_part
 part_small z h = omega (arith, ints, h.0, h.1)
@@ -41,9 +42,7 @@ module _ {k : Kind} (laws : Lawful k) where
   module _ (n : ℕ) (rows : List Row) (some : 0 < n) (fit : All (Fit k n) rows) (sound : All Sound rows) where
     pub edges_inside : All (Inside k n) (force k n rows)
     edges_inside =
-        force_inside k n (map (exact_of k) rows) some
-        (All-map (Inside k n) (exact_of k) rows
-        (All-weaker (Fit k n) (λ r. Inside k n (exact_of k r)) (λ r f. record { left = f.left; right = f.right }) rows fit))
+        force_inside k n (map (exact_of k) rows) some (fit_inside k n rows fit)
 
     pub edges_small : All (Small k) (force k n rows)
     edges_small =

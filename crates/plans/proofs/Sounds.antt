@@ -13,11 +13,11 @@ use Rattle.books.specs.Meaning.{Meaning, bounds_of, cut_to}
 use Rattle.plans.specs.declared.label.Label.{Label}
 use Rattle.plans.specs.Labels.{label_time}
 use Rattle.plans.specs.declared.mark.Mark.{Mark}
-use Rattle.plans.specs.Rows.{Fit}
+use Rattle.plans.specs.Rows.{Fit, Least}
 use Rattle.books.specs.Calls.{Cutting}
 use Rattle.plans.specs.States.{State}
 use Rattle.plans.specs.Plans.{counts}
-use Rattle.plans.specs.Soundness.{Least, Restores, Settled, Sound}
+use Rattle.plans.specs.Soundness.{Restores, Settled, Sound}
 
 module _ {X : Type 0} {k : Kind} {means : X → Exact k} {book : Meaning} {n : ℕ} {labels : List (Label X)} {marks : List (Mark X)} where
   -- the bounds of today can be restored

@@ -4,11 +4,11 @@ use mathlib.Core.Path.{subst⁻¹}
 use Rattle.delays.specs.Kind.{Kind, Lawful}
 use Rattle.plans.specs.Answers.{Call, Answer, mark, back, slip, done}
 use Rattle.plans.specs.States.{State, depth, closing, cutting, noted}
-use Rattle.plans.specs.Runs.{Said, Run, goes, Unmarked, MarkOf, Opened, BacksRestore, Left, start, further, taken}
+use Rattle.plans.specs.Runs.{Said, Run, goes, Unmarked, MarkOf, Opened, BacksRestore, Remaining, start, further, taken}
 use Rattle.plans.proofs.Agreeing.{runs_agree}
 use Rattle.plans.proofs.Changing.{Change, change, opens, shuts}
 use Rattle.plans.proofs.Parting.{split, join, opened_mark}
-use Rattle.plans.proofs.Enclosing.{Inside, inside_first, inside_run, back_restores}
+use Rattle.plans.proofs.Enclosing.{Enclosed, enclosed_first, enclosed_run, back_restores}
 
 module _ {k : Kind} where
   -- the plan after the back is the one before the mark
@@ -18,9 +18,9 @@ module _ {k : Kind} where
       let o = opens p in
       let c = shuts q in
       c.after ∙ go o.settled o.depth_is c.open_there
-      (inside_run inner (subst (λ (z : State). Run k z inner w) o.after r) (subst (λ (j : ℕ). Unmarked j inner) o.depth_is n) (inl (inside_first o.settled)))
+      (enclosed_run inner (subst (λ (z : State). Run k z inner w) o.after r) (subst (λ (j : ℕ). Unmarked j inner) o.depth_is n) (inl (enclosed_first o.settled)))
     where
-      go : s.settled ≡ true → d ≡ depth s + 1 → d ≤ depth w → Inside s w ⊎ (depth w < depth s + 1) → cutting (noted w d) (closing d w) ≡ s
+      go : s.settled ≡ true → d ≡ depth s + 1 → d ≤ depth w → Enclosed s w ⊎ (depth w < depth s + 1) → cutting (noted w d) (closing d w) ≡ s
       go f e g (inl i) = back_restores i f d e
       go f e g (inr l) = absurd (omega arith)
 
@@ -55,11 +55,11 @@ module _ {k : Kind} where
       let short : Run k s (m.before ++ later) t = join parts.1 (unwind number d m.inner later (join parts.2 h.2) m.unmarked) in
       (m, short, λ u ys q e. runs_agree laws s u t ys (m.before ++ later) q short e)
 
-  -- what is left of a run is a run to the same plan
-  pub left_run : {s : State} {xs ys : List (Said k)} → Left xs ys → (t : State) → Run k s xs t → Run k s ys t
-  left_run start t r = r
-  left_run (further {xs} {ys} {x} l n) t r = let h = split xs (x ∷ []) r in join (left_run l h.0 h.1) h.2
-  left_run {s} (taken {xs} {ys} inner number d l n) t r =
+  -- what remains of a run is a run to the same plan
+  pub remaining_run : {s : State} {xs ys : List (Said k)} → Remaining xs ys → (t : State) → Run k s xs t → Run k s ys t
+  remaining_run start t r = r
+  remaining_run (further {xs} {ys} {x} l n) t r = let h = split xs (x ∷ []) r in join (remaining_run l h.0 h.1) h.2
+  remaining_run {s} (taken {xs} {ys} inner number d l n) t r =
       let h = split xs ((back number d, done) ∷ []) r in
-      let i = split ys ((mark, slip number d) ∷ inner) (left_run l h.0 h.1) in
+      let i = split ys ((mark, slip number d) ∷ inner) (remaining_run l h.0 h.1) in
       subst (λ (z : List (Said k)). Run k s z t) (append-nil ys) (join i.1 (unwind number d inner [] (join i.2 h.2) n))

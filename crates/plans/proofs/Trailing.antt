@@ -1,5 +1,5 @@
 -- The trail back from a point that waits after the last round, and the chain on it. Assumes nothing.
-use Rattle.std.proofs.Common.{true, ◌≡◌, ℕ, zero, suc, ◌+◌, ◌-◌, ◌<◌, ◌≤◌, ◌⊎◌, List, ◌∷◌, map, length, get_or, take, drop, set, Bool, Some, None, Option, sym, refl, ap, ◌∙◌, inl, inr, ⊎_elim, arith, drop-cons, add-one, get_or-set_other, get_or-set_same}
+use Rattle.std.proofs.Common.{◌≡◌, ℕ, zero, suc, ◌+◌, ◌-◌, ◌<◌, ◌≤◌, ◌⊎◌, List, ◌∷◌, map, length, get_or, take, drop, set, Some, None, Option, sym, refl, ap, ◌∙◌, inl, inr, ⊎_elim, arith, drop-cons, add-one, get_or-set_other, get_or-set_same}
 use Rattle.std.proofs.lemmas.Simd.{map-map}
 use Rattle.std.specs.List.{All, range_with_len, slice_range}
 use Rattle.std.specs.Option.{IsSome}
@@ -7,32 +7,19 @@ use Rattle.std.proofs.lemmas.Bool.{cases_eq, cases_lt}
 use Rattle.std.proofs.lemmas.List.{length-take-le, get_or-take}
 use Rattle.std.proofs.lemmas.List.Edits.{length-between}
 use Rattle.std.proofs.lemmas.List.Elements.{All-get_or, Contains-get_or}
-use Rattle.delays.specs.Kind.{Kind, Exact, Lawful}
+use Rattle.delays.specs.Kind.{Kind, Lawful}
 use Rattle.network.specs.Bounds.{ExactBound, Bounds, floor_of, Inside}
-use Rattle.network.specs.Assignments.{Le, Lt}
+use Rattle.network.specs.Assignments.{Lt}
 use Rattle.network.specs.Chains.{ChainIn}
 use Rattle.network.specs.Rounds.{Repeated, stretch}
 use Rattle.network.proofs.Counting.{all_counting}
 use Rattle.network.proofs.Orders.{le_lt_trans}
 use Rattle.network.proofs.Repeating.{rounds_repeat}
-use Rattle.plans.specs.declared.label.Label.{Label}
-use Rattle.plans.specs.Labels.{label_time, label_waits, noted_via}
+use Rattle.plans.specs.Labels.{noted_via}
 use Rattle.plans.specs.Questions.{numbered}
-use Rattle.plans.specs.Rounds.{Fresh, Came, Story, Progress}
-use Rattle.plans.specs.Trails.{Behind, Trail, ChainOf, RepeatAt, FirstRepeatOf}
-
--- rounds over all points that left `start` waiting
-pub behind : {k : Kind} {edges : Bounds k} {X : Type 0} {means : X → Exact k} {n : ℕ} {from labels : List (Label X)} {via : List (List ℕ)} {start : ℕ}
-    → Progress k edges means n from labels via n → start < n → label_waits labels start ≡ true → Behind k edges n via start
-behind {k} {edges} {X} {means} {n} {from} {labels} progress inside still = record {
-  begun = label_waits from;
-  first = label_time k means from;
-  time = label_time k means labels;
-  waits = label_waits labels;
-  story = progress.story;
-  inside = inside;
-  still = still;
-}
+use Rattle.plans.specs.Rounds.{Fresh, Came}
+use Rattle.plans.specs.Trails.{Traceable, Trail, ChainOf, RepeatAt, FirstRepeatOf}
+use Rattle.plans.proofs.Progressing.{rises_by}
 
 -- a part of a list, by its places
 part_counting : (xs : List ℕ) (i m : ℕ) → i + m ≤ length xs → take m (drop i xs) ≡ map (λ a. get_or xs a 0) (range_with_len i m)
@@ -50,15 +37,7 @@ pub record Followed (k : Kind) (edges : Bounds k) (n : ℕ) (via : List (List �
   pub notes : (j : ℕ) → round ≤ j → j < n → get_or numbers j 0 ≡ noted_via via j (get_or points (j + 1) 0)
   pub lefts : (j : ℕ) → round ≤ j → j < n → (numbered edges (get_or numbers j 0)).left ≡ get_or points j 0
 
-module _ {k : Kind} (laws : Lawful k) {edges : Bounds k} {n : ℕ} {begun : ℕ → Bool} {first : ℕ → Exact k} {via : ℕ → ℕ → ℕ}
-    {time : ℕ → Exact k} {waits : ℕ → Bool} (s : Story k edges n n begun first via time waits) where
-  -- times only rise
-  rises_by : (i d j : ℕ) → i + d ≡ j → j ≤ n → (p : ℕ) → p < n → Le k (s.times i p) (s.times j p)
-  rises_by i zero j e h p l = let same : i ≡ j = omega arith in rw same (laws.reflexive (s.times j p))
-  rises_by i (suc d) j e h p l =
-      laws.transitive (s.times i p) (s.times (i + 1) p) (s.times j p) (s.rise i p (omega arith) l) (rises_by (i + 1) d j (omega arith) h p l)
-
-module _ {k : Kind} {edges : Bounds k} {n : ℕ} {via : List (List ℕ)} {start : ℕ} (b : Behind k edges n via start)
+module _ {k : Kind} {edges : Bounds k} {n : ℕ} {via : List (List ℕ)} {start : ℕ} (b : Traceable k edges n via start)
     (inside : All (Inside k n) edges)
     {round here : ℕ} {points numbers : List ℕ} (f : Followed k edges n via start round here points numbers) where
   abbrev point : ℕ → ℕ
@@ -68,13 +47,13 @@ module _ {k : Kind} {edges : Bounds k} {n : ℕ} {via : List (List ℕ)} {start 
   number j = get_or numbers j 0
 
   abbrev Stop : ℕ → Type 0
-  Stop j = (point j < n) × Fresh k edges b.begun b.story.times j (point j)
+  Stop j = (point j < n) × Fresh k edges b.begun b.history.times j (point j)
 
-  came_down : (j : ℕ) → round ≤ j → j < n → Stop (j + 1) → Came k edges b.begun b.story.times j (point (j + 1)) (number j)
-  came_down j l h stop = rw (f.notes j l h) (b.story.came j (point (j + 1)) h stop.0 (stop.1.later j refl))
+  came_down : (j : ℕ) → round ≤ j → j < n → Stop (j + 1) → Came k edges b.begun b.history.times j (point (j + 1)) (number j)
+  came_down j l h stop = rw (f.notes j l h) (b.history.came j (point (j + 1)) h stop.0 (stop.1.later j refl))
 
   stops : (d j : ℕ) → j + d ≡ n → round ≤ j → Stop j
-  stops zero j e l = let same : j ≡ n = omega arith in rw (same, f.top) (b.inside, b.story.wait start b.inside b.still)
+  stops zero j e l = let same : j ≡ n = omega arith in rw (same, f.top) (b.inside, b.history.wait start b.inside b.still)
   stops (suc d) j e l =
       let c = came_down j l (omega arith) (stops d (j + 1) (omega arith) (omega arith)) in
       rw (← f.lefts j l (omega arith)) ((All-get_or (Inside k n) edges (number j) (floor_of k 0) c.number inside).left, c.left)
@@ -83,16 +62,16 @@ module _ {k : Kind} {edges : Bounds k} {n : ℕ} {via : List (List ℕ)} {start 
   pub stop : (j : ℕ) → round ≤ j → j ≤ n → Stop j
   stop j l h = stops (n - j) j (omega arith) l
 
-  pub came_at : (j : ℕ) → round ≤ j → j < n → Came k edges b.begun b.story.times j (point (j + 1)) (number j)
+  pub came_at : (j : ℕ) → round ≤ j → j < n → Came k edges b.begun b.history.times j (point (j + 1)) (number j)
   came_at j l h = came_down j l h (stop (j + 1) (omega arith) (omega arith))
 
   -- the bound over which the point of the trail got its time has a number
   pub noted_below : (r : ℕ) → r + 1 ≡ round → noted_via via r here < length edges
   noted_below r e =
       let t = stop round (omega arith) f.upto in
-      let up : Lt k (b.story.times r (point round)) (b.story.times (r + 1) (point round)) =
+      let up : Lt k (b.history.times r (point round)) (b.history.times (r + 1) (point round)) =
       rw e (t.1.later r (sym e)) in
-      rw f.at at ((b.story.came r (point round) (omega (arith, f.upto)) t.0 up).number)
+      rw f.at at ((b.history.came r (point round) (omega (arith, f.upto)) t.0 up).number)
 
   -- one round further back
   pub follow_more : (r left : ℕ) → r + 1 ≡ round → round < length points → r < length numbers → left ≡ (numbered edges (noted_via via r here)).left
@@ -128,10 +107,10 @@ module _ {k : Kind} {edges : Bounds k} {n : ℕ} {via : List (List ℕ)} {start 
 
 module _ {k : Kind} (laws : Lawful k) {edges : Bounds k} {n : ℕ} where
   -- followed down to round 0
-  pub trailed : {via : List (List ℕ)} {start here : ℕ} {points numbers : List ℕ} → (b : Behind k edges n via start)
+  pub trailed : {via : List (List ℕ)} {start here : ℕ} {points numbers : List ℕ} → (b : Traceable k edges n via start)
       → All (Inside k n) edges → Followed k edges n via start 0 here points numbers → Trail k edges n points numbers
   trailed {via} {start} {here} {points} {numbers} b inside f = record {
-    label = λ j. b.story.times j (get_or points j 0);
+    label = λ j. b.history.times j (get_or points j 0);
     traced = record {
       inside = λ i h. (stop b inside f i (omega arith) h).0;
       held = λ i h. Contains-get_or edges (get_or numbers i 0) (floor_of k 0) (came_at b inside f i (omega arith) h).number;
@@ -143,9 +122,9 @@ module _ {k : Kind} (laws : Lawful k) {edges : Bounds k} {n : ℕ} where
           let last : j ≡ j' + 1 = omega arith in
           let p = get_or points j 0 in
           let t = stop b inside f j (omega arith) h in
-          let up : Lt k (b.story.times j' p) (b.story.times j p) = t.1.later j' last in
-          let since = rises_by laws b.story i (j' - i) j' (omega arith) (omega arith) p t.0 in
-          rw e (le_lt_trans laws (b.story.times i p) (b.story.times j' p) (b.story.times j p) since up);
+          let up : Lt k (b.history.times j' p) (b.history.times j p) = t.1.later j' last in
+          let since = rises_by laws b.history i (j' - i) j' (omega arith) (omega arith) p t.0 in
+          rw e (le_lt_trans laws (b.history.times i p) (b.history.times j' p) (b.history.times j p) since up);
     };
     below = λ i h. (came_at b inside f i (omega arith) h).number;
   }

@@ -5,6 +5,7 @@ use Rattle.delays.specs.Kind.{Kind, Exact}
 use Rattle.plans.specs.declared.fault.PlanFault.{PlanFault}
 use Rattle.plans.specs.declared.fault.PlanFault.TheVariants.{Unsettled, SettledAlready, Points, ListShort, Point, Kind as KindRefuses, Conflict, MarksFull, WrongSlip, Bound, Book}
 
+-- a call on a plan that is open, with what its answer depends on besides the plan
 pub data Call : Type 0 where
   -- with the length of the caller's list
   settle : (length : ℕ) → Call
@@ -15,9 +16,11 @@ pub data Call : Type 0 where
   keep : (number depth : ℕ) → Call
   back : (number depth : ℕ) → Call
 
+-- what a call answers
 pub data Answer (k : Kind) : Type 0 where
   -- settled: how many times are not zero
   settled : (count : ℕ) → Answer k
+  -- a bound of the book covers the one posted
   covered : Answer k
   -- posted: how many points have another earliest time than before
   moved : (count : ℕ) → Answer k
@@ -25,6 +28,7 @@ pub data Answer (k : Kind) : Type 0 where
   time : (value : Exact k) → Answer k
   -- a slip, with its number and depth
   slip : (number depth : ℕ) → Answer k
+  -- kept or taken back
   done : Answer k
   refused : (fault : PlanFault) → Answer k
 

@@ -11,13 +11,15 @@ use Rattle.books.specs.Faults as books
 use Rattle.plans.specs.declared.fault.PlanFault.{PlanFault}
 use Rattle.plans.specs.declared.fault.PlanFault.TheVariants.{Unsettled, SettledAlready, Points, ListShort, Point, Kind, Conflict, MarksFull, WrongSlip, Bound, Book}
 
--- how a fault of a layer below goes up
+-- how a fault of a layer below goes up: that of a bound,
 abbrev pub of_bound : BoundFault → PlanFault
 of_bound e = Bound e
 
+-- that of a kind, which names no place,
 abbrev pub of_kind : KindFault → PlanFault
 of_kind e = Kind e 0
 
+-- and that of a book
 abbrev pub of_book : BookFault → PlanFault
 of_book e = Book e
 

@@ -1,12 +1,12 @@
 -- The first bound of a book that a plan can't take, and why. Assumes nothing.
-use Rattle.std.specs.Prelude.{◌≡◌, ℕ, ◌<◌, ◌≤◌, ◌⊎◌, List, length, take, Ok, Err, Result, slice_index_or, All}
+use Rattle.std.specs.Prelude.{◌≡◌, ℕ, ◌<◌, List, length, take, Ok, Err, Result, slice_index_or, All}
 use Rattle.bounds.specs.declared.row.Row.{Row}
 use Rattle.delays.specs.Kind.{Kind, Unread}
 use Rattle.delays.specs.declared.fault.KindFault.{KindFault}
 use Rattle.delays.specs.declared.fault.KindFault.TheVariants.{Unread as unread}
 use Rattle.plans.specs.declared.fault.PlanFault.{PlanFault}
 use Rattle.plans.specs.declared.fault.PlanFault.TheVariants.{Unsettled, SettledAlready, Points, ListShort, Point, Kind as KindRefuses, Conflict, MarksFull, WrongSlip, Bound, Book}
-use Rattle.plans.specs.Rows.{Fit}
+use Rattle.plans.specs.Rows.{Fit, Outside}
 
 -- the kind has a delay with the parts of the row, or none
 abbrev pub PairChecked : (k : Kind) → Row → Result (Unit {0}) KindFault → Type 0
@@ -14,10 +14,6 @@ PairChecked k r (Ok _) = Unread k r.t r.s → ⊥
 PairChecked k r (Err e) = Unread k r.t r.s
 
 module _ (k : Kind) (n : ℕ) where
-  -- a point of the row is not below n
-  abbrev pub Outside : Row → Type 0
-  Outside r = (n ≤ r.left) ⊎ (n ≤ r.right)
-
   -- the points of the row are below n, and the kind has no delay with its parts
   pub record NoDelay (r : Row) : Type 0 where
     pub left : r.left < n
@@ -26,7 +22,7 @@ module _ (k : Kind) (n : ℕ) where
 
   -- why the row does not fit, where it has the number i
   abbrev pub Misfit : ℕ → Row → PlanFault → Type 0
-  Misfit i r (Point place) = (place ≡ i) × Outside r
+  Misfit i r (Point place) = (place ≡ i) × Outside n r
   Misfit i r (KindRefuses unread place) = (place ≡ i) × NoDelay r
   Misfit i r Unsettled = ⊥
   Misfit i r SettledAlready = ⊥

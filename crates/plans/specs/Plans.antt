@@ -25,30 +25,36 @@ use Rattle.plans.specs.States.{State}
 abbrev pub counts : {X : Type 0} → List (Mark X) → List ℕ
 counts marks = map (λ m. m.added) marks
 
--- a kind comes with the order and the equality of its values
+-- A kind comes with the order and the equality of its values.
 module _ {D B : Type 0} {d : delay.Ghosts D} {o : ord.Ghosts D} {q : part_eq.Ghosts D} {r : part_ord.Ghosts D} {b : book.Ghosts B} where
+  -- what the program's plan is, but for its times
   abbrev pub state_of : Plan D B d o q r b → State
   state_of p = record { book = b.meaning p.book; points = p.points; number = p.number; settled = p.settled; marks = counts p.marks.items }
 
--- the answers of the calls
+-- What the program's results answer.
 module _ {k : Kind} where
+  -- to a settle: the count, or the fault
   abbrev pub settle_answer : Result ℕ PlanFault → Answer k
   settle_answer (Ok count) = settled count
   settle_answer (Err e) = refused e
 
+  -- to a post: covered, the count, or the fault
   abbrev pub post_answer : Result Posted PlanFault → Answer k
   post_answer (Ok Covered) = covered
   post_answer (Ok (Moved count)) = moved count
   post_answer (Err e) = refused e
 
+  -- to a read: the time that the value means, or the fault
   abbrev pub read_answer : {X : Type 0} → (X → Exact k) → Result X PlanFault → Answer k
   read_answer means (Ok x) = time (means x)
   read_answer means (Err e) = refused e
 
+  -- to a mark: the slip by its number and depth, or the fault
   abbrev pub mark_answer : Result Slip PlanFault → Answer k
   mark_answer (Ok s) = slip s.number s.depth
   mark_answer (Err e) = refused e
 
+  -- to a keep or a back: done, or the fault
   abbrev pub close_answer : {U : Type 0} → Result U PlanFault → Answer k
   close_answer (Ok u) = done
   close_answer (Err e) = refused e

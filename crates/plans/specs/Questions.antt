@@ -15,13 +15,15 @@ posted_rows None = []
 posted_rows (Some b) = row_of b ∷ []
 
 module _ {B : Type 0} (meaning : B → Meaning) where
+  -- the bounds of the book
   abbrev pub book_rows : Question B → List Row
   book_rows q = bounds_of (meaning q.book.now)
 
+  -- those of the book, and then the one that is posted
   abbrev pub question_rows : Question B → List Row
   question_rows q = book_rows q ++ posted_rows q.posted
 
-  -- the bounds in force
+  -- the bounds in force: these, and then the floors
   abbrev pub in_question : (k : Kind) → Question B → Bounds k
   in_question k q = force k q.points (question_rows q)
 

@@ -53,7 +53,7 @@ module _ (k : Kind) (edges : Bounds k) where
     pub left : Fresh begun times j (numbered edges v).left
 
   -- so many rounds over n points: they began with the points `begun` waiting at the times `start`, and led to `time`, with these waiting
-  pub record Story (n done : ℕ) (begun : ℕ → Bool) (start : ℕ → Exact k) (via : ℕ → ℕ → ℕ) (time : ℕ → Exact k) (waits : ℕ → Bool) : Type 0 where
+  pub record History (n done : ℕ) (begun : ℕ → Bool) (start : ℕ → Exact k) (via : ℕ → ℕ → ℕ) (time : ℕ → Exact k) (waits : ℕ → Bool) : Type 0 where
     -- the time of each point after each round
     pub times : ℕ → ℕ → Exact k
     pub first : (p : ℕ) → p < n → times 0 p ≡ start p
@@ -68,7 +68,7 @@ module _ (k : Kind) (edges : Bounds k) where
 
   -- what rounds keep: so many of them led from the labels `from` to the labels `labels`
   pub record Progress {X : Type 0} (means : X → Exact k) (n : ℕ) (from labels : List (Label X)) (via : List (List ℕ)) (done : ℕ) : Type 0 where
-    pub story : Story n done (label_waits from) (label_time k means from) (noted_via via) (label_time k means labels) (label_waits labels)
+    pub history : History n done (label_waits from) (label_time k means from) (noted_via via) (label_time k means labels) (label_waits labels)
     pub quiet : Quiet (label_time k means labels) (label_waits labels)
     pub reached : (p : ℕ) → p < n → Reached k edges p (label_time k means labels p)
     pub near : (p : ℕ) → p < n → k.size (label_time k means labels p) ≤ (128 + done) * k.greatest

@@ -1,5 +1,5 @@
--- The bounds of a plan: the exact bounds that rows say, which rows a plan can take, covers, and earliest times. Assumes nothing.
-use Rattle.std.specs.Prelude.{◌≡◌, ℕ, ◌+◌, ◌<◌, zero, suc, Bool, not, ◌&&◌, cond, List, map, Contains}
+-- The bounds of a plan: the exact bounds that rows say, which rows a plan can take, covers, and earliest and least times. Assumes nothing.
+use Rattle.std.specs.Prelude.{◌≡◌, ℕ, ◌+◌, ◌<◌, ◌≤◌, ◌⊎◌, zero, suc, Bool, not, ◌&&◌, cond, List, map, Contains}
 use Rattle.bounds.specs.declared.row.Row.{Row}
 use Rattle.delays.specs.Kind.{Kind, Exact, Unread}
 use Rattle.network.specs.Bounds.{ExactBound, Bounds, bounds_in_force}
@@ -20,6 +20,10 @@ pub record Fit (k : Kind) (n : ℕ) (r : Row) : Type 0 where
   pub right : r.right < n
   pub read : Unread k r.t r.s → ⊥
 
+-- a point of the row is not below n
+abbrev pub Outside : ℕ → Row → Type 0
+Outside n r = (n ≤ r.left) ⊎ (n ≤ r.right)
+
 -- c has the two points of b, and a delay not greater
 pub record Covers (k : Kind) (c b : Row) : Type 0 where
   pub left : c.left ≡ b.left
@@ -38,6 +42,11 @@ Solvable k n rows = (x : ℕ → Exact k) × Solution k (force k n rows) x
 pub record Times (k : Kind) (n : ℕ) (rows : List Row) (x : ℕ → Exact k) : Type 0 where
   pub solution : Solution k (force k n rows) x
   pub earliest : (p : ℕ) → p < n → Earliest k (force k n rows) p (x p)
+
+-- x meets the bounds in force, and every other assignment that does gives each of the n points at least its time
+pub record Least (k : Kind) (n : ℕ) (rows : List Row) (x : ℕ → Exact k) : Type 0 where
+  pub solution : Solution k (force k n rows) x
+  pub least : (y : ℕ → Exact k) → Solution k (force k n rows) y → (p : ℕ) → p < n → Le k (x p) (y p)
 
 -- how many numbers below n pass a test
 abbrev pub tally : (ℕ → Bool) → ℕ → ℕ

@@ -3,10 +3,9 @@ use Rattle.std.specs.Prelude.{◌≡◌, ℕ, ◌<◌, ◌≤◌, true, false, L
 use Rattle.bounds.specs.declared.row.Row.{Row}
 use Rattle.delays.specs.Kind.{Kind, Exact}
 use Rattle.network.specs.Bounds.{Bounds}
-use Rattle.network.specs.Assignments.{Le, Solution}
 use Rattle.network.specs.Chains.{ChainIn}
 use Rattle.plans.specs.declared.fault.PlanFault.TheVariants.{Conflict}
-use Rattle.plans.specs.Rows.{force, Fit, Solvable}
+use Rattle.plans.specs.Rows.{force, Fit, Solvable, Least}
 use Rattle.plans.specs.Answers.{Call, settle, post, read, mark, keep, back, Answer, settled, covered, moved, time, slip, done, refused, aside}
 use Rattle.plans.specs.States.{State, rows}
 use Rattle.plans.specs.Steps.{Step}
@@ -20,6 +19,7 @@ pub data Run (k : Kind) : State → List (Said k) → State → Type 0 where
   rests : {s : State} → Run k s [] s
   goes : {s t u : State} {c : Call} {a : Answer k} {rest : List (Said k)} → Step k s c a t → Run k t rest u → Run k s ((c, a) ∷ rest) u
 
+-- the call alone
 abbrev pub call_of : {k : Kind} → Said k → Call
 call_of x = x.0
 
@@ -39,7 +39,7 @@ abbrev pub RunsAgree : Kind → State → Type 0
 RunsAgree k s = (t u : State) (xs ys : List (Said k)) → Run k s xs t → Run k s ys u → map call_of xs ≡ map call_of ys
     → (map answer_of xs ≡ map answer_of ys) × (t ≡ u)
 
--- no check before that for a conflict refuses the call, and the bounds in question are then these
+-- no check before that for a cover or a conflict refuses the call, and the bounds in question are then these
 abbrev pub Tries : Kind → State → Call → List Row → Type 0
 Tries k s (settle length) bounds =
     (s.settled ≡ false) × (0 < s.points) × (s.points ≤ 128) × (s.points ≤ length) × All (Fit k s.points) (rows s) × (bounds ≡ rows s)
@@ -49,6 +49,7 @@ Tries k s mark bounds = ⊥
 Tries k s (keep number d) bounds = ⊥
 Tries k s (back number d) bounds = ⊥
 
+-- the answer is a conflict
 abbrev pub IsConflict : {k : Kind} → Answer k → Type 0
 IsConflict a = (length : ℕ) × (a ≡ refused (Conflict length))
 
@@ -69,16 +70,20 @@ ConflictsTrue k s = (t u : State) (xs : List (Said k)) (c : Call) (a : Answer k)
 -- the times that reading gives of a settled plan: an assignment that meets the bounds in force, and each is the least of any such
 pub record ReadOut (k : Kind) (t : State) : Type 0 where
   pub times : ℕ → Exact k
-  pub solution : Solution k (force k t.points (rows t)) times
-  pub least : (y : ℕ → Exact k) → Solution k (force k t.points (rows t)) y → (p : ℕ) → p < t.points → Le k (times p) (y p)
+  pub least : Least k t.points (rows t) times
   pub reads : (p : ℕ) (a : Answer k) (u : State) → p < t.points → Step k t (read p) a u → a ≡ time (times p)
 
+-- Reading a settled plan gives the least times.
 abbrev pub ReadsLeast : Kind → State → Type 0
 ReadsLeast k s = (t : State) (xs : List (Said k)) → Run k s xs t → t.settled ≡ true → ReadOut k t
 
+-- the call with its answer opens no mark at depth d
+abbrev pub OpensNone : {k : Kind} → ℕ → Said k → Type 0
+OpensNone d x = (number : ℕ) → x ≡ (mark, slip number d) → ⊥
+
 -- none of the calls opened a mark at depth d
 abbrev pub Unmarked : {k : Kind} → ℕ → List (Said k) → Type 0
-Unmarked d xs = All (λ x. (number : ℕ) → x ≡ (mark, slip number d) → ⊥) xs
+Unmarked d xs = All (OpensNone d) xs
 
 -- the latest mark at depth d among the calls, which gave the slip with this number
 pub record MarkOf {k : Kind} (number d : ℕ) (calls : List (Said k)) : Type 0 where
@@ -88,20 +93,25 @@ pub record MarkOf {k : Kind} (number d : ℕ) (calls : List (Said k)) : Type 0 w
   pub unmarked : Unmarked d inner
 
 -- An accepted back takes back each call from its mark, the latest at its depth, through itself: the run without them leads to the same plan,
--- and whichever answers the calls that are left may have, they are the same, chains aside.
+-- and whichever answers the calls that remain may have, they are the same, chains aside.
 abbrev pub BacksRestore : Kind → State → Type 0
 BacksRestore k s = (t : State) (number d : ℕ) (earlier later : List (Said k)) → Run k s (earlier ++ ((back number d, done) ∷ later)) t
     → (m : MarkOf number d earlier) × Run k s (m.before ++ later) t
     × ((u : State) (ys : List (Said k)) → Run k s ys u → map call_of ys ≡ map call_of (m.before ++ later)
     → (map answer_of ys ≡ map answer_of (m.before ++ later)) × (u ≡ t))
 
--- what is left of the calls: an accepted back takes back each from its mark through itself
-pub data Left {k : Kind} : List (Said k) → List (Said k) → Type 0 where
-  start : Left [] []
-  further : {xs ys : List (Said k)} {x : Said k} → Left xs ys → ((number d : ℕ) → x ≡ (back number d, done) → ⊥) → Left (xs ++ x ∷ []) (ys ++ x ∷ [])
-  taken : {xs ys : List (Said k)} (inner : List (Said k)) (number d : ℕ) → Left xs (ys ++ ((mark, slip number d) ∷ inner)) → Unmarked d inner
-      → Left (xs ++ (back number d, done) ∷ []) ys
+-- the call with its answer is no accepted back
+abbrev pub Forward : {k : Kind} → Said k → Type 0
+Forward x = (number d : ℕ) → x ≡ (back number d, done) → ⊥
 
+-- what remains of the calls: an accepted back takes back each from its mark through itself
+pub data Remaining {k : Kind} : List (Said k) → List (Said k) → Type 0 where
+  start : Remaining [] []
+  further : {xs ys : List (Said k)} {x : Said k} → Remaining xs ys → Forward x → Remaining (xs ++ x ∷ []) (ys ++ x ∷ [])
+  taken : {xs ys : List (Said k)} (inner : List (Said k)) (number d : ℕ) → Remaining xs (ys ++ ((mark, slip number d) ∷ inner)) → Unmarked d inner
+      → Remaining (xs ++ (back number d, done) ∷ []) ys
+
+-- the bound, where the answer says that a post added it
 abbrev pub if_moved : {k : Kind} → Row → Answer k → List Row
 if_moved b (settled count) = []
 if_moved b covered = []
@@ -111,7 +121,7 @@ if_moved b (slip number d) = []
 if_moved b done = []
 if_moved b (refused fault) = []
 
--- the bound that a post accepted
+-- the bound that the call added to the book: that of a post which was accepted and not covered
 abbrev pub accepted : {k : Kind} → Call → Answer k → List Row
 accepted (settle length) a = []
 accepted (post length b) a = if_moved b a
@@ -120,6 +130,7 @@ accepted mark a = []
 accepted (keep number d) a = []
 accepted (back number d) a = []
 
+-- the bounds that the calls added, in order
 abbrev pub all_accepted : {k : Kind} → List (Said k) → List Row
 all_accepted [] = []
 all_accepted (x ∷ xs) = accepted x.0 x.1 ++ all_accepted xs
@@ -127,7 +138,7 @@ all_accepted (x ∷ xs) = accepted x.0 x.1 ++ all_accepted xs
 -- The book's bounds are those at opening and then, in order, each that a post accepted and no back took back.
 abbrev pub BooksStand : Kind → State → Type 0
 BooksStand k s = (t : State) (xs : List (Said k)) → Run k s xs t
-    → ((ys : List (Said k)) × Left xs ys) × ((ys : List (Said k)) → Left xs ys → rows t ≡ rows s ++ all_accepted ys)
+    → ((ys : List (Said k)) × Remaining xs ys) × ((ys : List (Said k)) → Remaining xs ys → rows t ≡ rows s ++ all_accepted ys)
 
 -- the law of all runs that begin with the plan s, as opening gives it
 pub record RunsStand (k : Kind) (s : State) : Type 0 where

@@ -1,19 +1,12 @@
 -- What holds of a plan between any two calls. Assumes nothing.
 use Rattle.std.specs.Prelude.{◌≡◌, ℕ, ◌<◌, ◌≤◌, Bool, true, false, List, [], ◌++◌, length, take, All, AllPairs}
-use Rattle.bounds.specs.declared.row.Row.{Row}
 use Rattle.delays.specs.Kind.{Kind, Exact}
-use Rattle.network.specs.Assignments.{Le, Solution}
 use Rattle.network.specs.Edges.{time_of_point}
 use Rattle.books.specs.Meaning.{Meaning, bounds_of}
 use Rattle.plans.specs.declared.mark.Mark.{Mark}
 use Rattle.plans.specs.declared.label.Label.{Label}
 use Rattle.plans.specs.Labels.{label_time}
-use Rattle.plans.specs.Rows.{force, Fit}
-
--- x meets the bounds in force, and every other assignment that does gives each of the n points at least its time
-pub record Least (k : Kind) (n : ℕ) (rows : List Row) (x : ℕ → Exact k) : Type 0 where
-  pub solution : Solution k (force k n rows) x
-  pub least : (y : ℕ → Exact k) → Solution k (force k n rows) y → (p : ℕ) → p < n → Le k (x p) (y p)
+use Rattle.plans.specs.Rows.{Fit, Least}
 
 module _ {X : Type 0} (k : Kind) (means : X → Exact k) where
   -- a mark noted a count of added bounds, and the least times of the fixed bounds and those

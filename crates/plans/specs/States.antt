@@ -3,6 +3,7 @@ use Rattle.std.specs.Prelude.{ℕ, ◌-◌, Bool, true, false, List, [], ◌∷�
 use Rattle.bounds.specs.declared.row.Row.{Row}
 use Rattle.books.specs.Meaning.{Meaning, bounds_of, with_bounds, cut_to}
 
+-- a plan, but for its times, which its bounds determine
 pub record State : Type 0 where
   -- the fixed list, the added list and the free places of the book
   pub book : Meaning
@@ -10,6 +11,7 @@ pub record State : Type 0 where
   pub points : ℕ
   -- the plan number
   pub number : ℕ
+  -- whether its earliest times were found
   pub settled : Bool
   -- for each open mark, the oldest first, how many added bounds the book had when it was opened
   pub marks : List ℕ

@@ -9,7 +9,7 @@ use Rattle.network.specs.Chains.{ChainIn}
 use Rattle.network.specs.Earliest.{Earliest}
 use Rattle.plans.specs.declared.fault.PlanFault.{PlanFault}
 use Rattle.plans.specs.declared.fault.PlanFault.TheVariants.{Unsettled, SettledAlready, Points, ListShort, Point, Kind as KindRefuses, Conflict, MarksFull, WrongSlip, Book}
-use Rattle.plans.specs.Rows.{force, Covered, Times, moved_count}
+use Rattle.plans.specs.Rows.{force, Outside, Covered, Times, moved_count}
 use Rattle.plans.specs.Answers.{Call, settle, post, read, mark, keep, back, Answer, settled, covered, moved, time, slip, done, refused}
 use Rattle.plans.specs.States.{State, rows, depth, settling, posting, marking, closing, cutting, noted}
 
@@ -21,15 +21,19 @@ Ending k = Answer k → State → Type 0
 abbrev pub Becomes : {k : Kind} → Answer k → State → Ending k
 Becomes answer after a t = (a ≡ answer) × (t ≡ after)
 
+-- where `first` holds this is the answer, and the plan stays; otherwise what follows decides
+abbrev pub Unless : {k : Kind} → State → Type 0 → Answer k → Ending k → Ending k
+Unless s first answer next a t = (first × Becomes answer s a t) ⊎ ((first → ⊥) × next a t)
+
 -- where `bad` holds the call is refused with the fault, and the plan stays; otherwise what follows decides
 abbrev pub Check : {k : Kind} → State → Type 0 → PlanFault → Ending k → Ending k
-Check s bad fault next a t = (bad × Becomes (refused fault) s a t) ⊎ ((bad → ⊥) × next a t)
+Check s bad fault = Unless s bad (refused fault)
 
 -- the bounds from number i on: each for its points and then for its pair
 abbrev pub EachBound : (k : Kind) → State → ℕ → List Row → Ending k → Ending k
 EachBound k s i [] next = next
 EachBound k s i (b ∷ bs) next =
-    Check s ((s.points ≤ b.left) ⊎ (s.points ≤ b.right)) (Point i)
+    Check s (Outside s.points b) (Point i)
     (Check s (Unread k b.t b.s) (KindRefuses unread i)
     (EachBound k s (i + 1) bs next))
 
@@ -38,6 +42,18 @@ abbrev pub Conflicts : (k : Kind) → State → List Row → ((ℕ → Exact k) 
 Conflicts k s bounds next a t =
     ((row : Bounds k) × ChainIn k (force k s.points bounds) row × Becomes (refused (Conflict (length row))) s a t)
     ⊎ ((x : ℕ → Exact k) × Times k s.points bounds x × next x a t)
+
+-- past the check of a post for a conflict, where x are the earliest times with the bound: it is added if the book has a free place
+abbrev pub PostAdded : (k : Kind) → State → Row → (ℕ → Exact k) → Ending k
+PostAdded k s b x =
+    Check s (s.book.free ≡ 0) (Book Full)
+    (λ a t. (old : ℕ → Exact k) × Times k s.points (rows s) old × Becomes (moved (moved_count k s.points old x)) (posting b s) a t)
+
+-- past the earlier checks of a post: the bound is covered, or else it may bring a conflict, or be added
+abbrev pub PostDecided : (k : Kind) → State → Row → Ending k
+PostDecided k s b =
+    Unless s (Covered k (rows s) b) covered
+    (Conflicts k s (rows s ++ b ∷ []) (PostAdded k s b))
 
 -- the slip has the plan's number and its present depth, and that mark is open
 pub record Present (s : State) (number d : ℕ) : Type 0 where
@@ -60,10 +76,7 @@ Step k s (post length b) =
     (Check s (s.points ≤ b.right) (Point 2)
     (Check s (Unread k b.t b.s) (KindRefuses unread 0)
     (Check s (length < s.points) ListShort
-    (λ a t. (Covered k (rows s) b × Becomes covered s a t) ⊎ ((Covered k (rows s) b → ⊥)
-    × Conflicts k s (rows s ++ b ∷ []) (λ x.
-    Check s (s.book.free ≡ 0) (Book Full)
-    (λ a t. (old : ℕ → Exact k) × Times k s.points (rows s) old × Becomes (moved (moved_count k s.points old x)) (posting b s) a t)) a t))))))
+    (PostDecided k s b)))))
 Step k s (read p) =
     Check s (s.settled ≡ false) Unsettled
     (Check s (s.points ≤ p) (Point 1)

@@ -8,17 +8,17 @@ use Rattle.network.specs.Rounds.{Traced}
 use Rattle.plans.specs.Rows.{force}
 use Rattle.plans.specs.Questions.{numbered}
 use Rattle.plans.specs.Labels.{noted_via}
-use Rattle.plans.specs.Rounds.{Story}
+use Rattle.plans.specs.Rounds.{History}
 use Rattle.plans.specs.Conflicts.{Named}
 
 module _ (k : Kind) (edges : Bounds k) (n : ℕ) where
   -- n rounds over n points, which noted the numbers `via`, left the point `start` waiting
-  pub record Behind (via : List (List ℕ)) (start : ℕ) : Type 0 where
+  pub record Traceable (via : List (List ℕ)) (start : ℕ) : Type 0 where
     pub begun : ℕ → Bool
     pub first : ℕ → Exact k
     pub time : ℕ → Exact k
     pub waits : ℕ → Bool
-    pub story : Story k edges n n begun first (noted_via via) time waits
+    pub history : History k edges n n begun first (noted_via via) time waits
     pub inside : start < n
     pub still : waits start ≡ true
 

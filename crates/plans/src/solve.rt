@@ -31,7 +31,7 @@ fn begin<D: Delay>(labels: &mut [Label<D>])
 }
 
 // Lets one point wait, and no other.
-fn wake<D: Delay>(labels: &mut [Label<D>], point: usize)
+fn let_wait<D: Delay>(labels: &mut [Label<D>], point: usize)
     requires { point < length labels.old }
     ensures times { (p : ℕ) → label_time D.kind D.means labels.new p ≡ label_time D.kind D.means labels.old p }
     ensures waits { label_waits labels.new point ≡ true }
@@ -114,6 +114,6 @@ pub(crate) fn posted_times<D: Delay, B: Book>(
         posted: Some(posted),
         points,
     };
-    wake(labels, usize::from(posted.row().left));
+    let_wait(labels, usize::from(posted.row().left));
     solve(&question, labels, list)
 }

@@ -4,7 +4,7 @@ ghost use Rattle.delays.specs.Kind.{Kind};
 ghost use Rattle.plans.specs.Rows.{Fit, Solvable};
 ghost use Rattle.plans.specs.Conflicts.{ChainWritten};
 ghost use Rattle.plans.specs.Questions.{book_rows, posted_rows, question_rows, in_question};
-ghost use Rattle.plans.specs.Trails.{Behind, Trail, ChainOf, PlaceOf, FirstRepeatOf, TurnedTo, WordFor, WordsWritten};
+ghost use Rattle.plans.specs.Trails.{Traceable, Trail, ChainOf, PlaceOf, FirstRepeatOf, TurnedTo, WordFor, WordsWritten};
 
 use crate::question::Question;
 use books::Book;
@@ -76,7 +76,7 @@ fn trail<D: Delay, B: Book>(
     requires points { question.now.points < length points.old }
     requires numbers { question.now.points ≤ length numbers.old }
     requires fit { All (Fit D.kind question.now.points) (question_rows B.meaning question.now) }
-    requires story { Behind D.kind (in_question B.meaning D.kind question.now) question.now.points via.now start }
+    requires history { Traceable D.kind (in_question B.meaning D.kind question.now) question.now.points via.now start }
     ensures { Trail D.kind (in_question B.meaning D.kind question.now) question.now.points points.new numbers.new }
 {
     let mut point = start;
@@ -101,7 +101,7 @@ fn chain_behind<D: Delay, B: Book>(
     requires rounds { question.now.points ≤ length via.now }
     requires numbers { question.now.points ≤ length numbers.old }
     requires fit { All (Fit D.kind question.now.points) (question_rows B.meaning question.now) }
-    requires story { Behind D.kind (in_question B.meaning D.kind question.now) question.now.points via.now start }
+    requires history { Traceable D.kind (in_question B.meaning D.kind question.now) question.now.points via.now start }
     ensures before { result.0 < result.1 }
     ensures inside { result.1 ≤ question.now.points }
     ensures chain { ChainOf D.kind (in_question B.meaning D.kind question.now) question.now.points (slice_range numbers.new result.0 result.1) }
@@ -124,7 +124,7 @@ pub(crate) fn write_chain<D: Delay, B: Book>(
     requires rounds { question.now.points ≤ length via.now }
     requires list { question.now.points ≤ length list.old }
     requires fit { All (Fit D.kind question.now.points) (question_rows B.meaning question.now) }
-    requires story { Behind D.kind (in_question B.meaning D.kind question.now) question.now.points via.now start }
+    requires history { Traceable D.kind (in_question B.meaning D.kind question.now) question.now.points via.now start }
     requires solvable { (posted_rows question.now.posted ≡ []) ⊎ Solvable D.kind question.now.points (book_rows B.meaning question.now) }
     ensures { ChainWritten D.kind question.now.points (book_rows B.meaning question.now) (posted_rows question.now.posted) list.old list.new result }
 {

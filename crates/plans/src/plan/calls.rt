@@ -58,20 +58,21 @@ impl<D: Delay, B: Book> Plan<D, B> {
         &self.book
     }
 
-    // The number of points.
+    // Over how many points the plan is; a plan that is opened over too many, or none, refuses to settle.
     pub fn points(&self) -> usize
         ensures { result ≡ (state_of self.now).points }
     {
         self.points
     }
 
-    // The plan number.
+    // The number that the plan was opened with, which its slips carry.
     pub fn number(&self) -> u32
         ensures { result ≡ (state_of self.now).number }
     {
         self.number
     }
 
+    // Whether settle found the earliest times.
     pub fn is_settled(&self) -> bool
         ensures { result ≡ (state_of self.now).settled }
     {
@@ -127,7 +128,9 @@ impl<D: Delay, B: Book> Plan<D, B> {
 
     // Takes the slip, also where it refuses: it is good where it has the plan's number and present depth, and a mark is open.
     fn check_slip(&self, slip: Slip) -> Result<(), PlanFault>
-        ensures { MatchResult result (λ u. Present (state_of self.now) slip.number slip.depth) (λ e. (e ≡ PlanFault.WrongSlip) × (Present (state_of self.now) slip.number slip.depth → ⊥)) }
+        ensures { MatchResult result
+            (λ u. Present (state_of self.now) slip.number slip.depth)
+            (λ e. (e ≡ PlanFault.WrongSlip) × (Present (state_of self.now) slip.number slip.depth → ⊥)) }
     {
         let (number, depth) = slip.spent();
         if number == self.number && depth == self.marks.len() && depth > 0 {
@@ -137,7 +140,8 @@ impl<D: Delay, B: Book> Plan<D, B> {
         }
     }
 
-    // Closes the youngest mark, and keeps what was posted since.
+    // Closes the youngest mark, and keeps what was posted since. The slip is taken first, since it must be handed on before any `?`; that the
+    // plan is not settled still goes before that the slip is wrong.
     #[tactic(auto, using(crate::proofs::Sounds::sound_popped))]
     pub fn keep(&mut self, slip: Slip) -> Result<(), PlanFault>
         ensures step { Step D.kind (state_of self.old) (keep slip.number slip.depth) (close_answer result) (state_of self.new) }
@@ -150,7 +154,7 @@ impl<D: Delay, B: Book> Plan<D, B> {
         Ok(())
     }
 
-    // Closes the youngest mark, and takes back what was posted since.
+    // Closes the youngest mark, and takes back what was posted since. As in keep, the slip is taken before anything is refused.
     #[tactic(auto, using(crate::proofs::Sounds::sound_popped, crate::proofs::Sounds::sound_restored))]
     pub fn back(&mut self, slip: Slip) -> Result<(), PlanFault>
         ensures step { Step D.kind (state_of self.old) (back slip.number slip.depth) (close_answer result) (state_of self.new) }

@@ -19,10 +19,10 @@ solve-requires-clause-begun g c =
     let b = row_of c.args.posted in
     let r = c.requires in
     let left : c.from.result ≡ b.left = c.from.ensures ∙ ap (λ y. y.left) c.row.ensures.value in
-    let waits : label_waits c.wake.new.labels b.left ≡ true = subst (λ p. label_waits c.wake.new.labels p ≡ true) left c.wake.ensures.waits in
+    let waits : label_waits c.let_wait.new.labels b.left ≡ true = subst (λ p. label_waits c.let_wait.new.labels p ≡ true) left c.let_wait.ensures.waits in
     let sound = (g.met.B.Book.proper c.args.book.now).sound in
-    begun_row g.met.D.Delay.lawful means c.args.points r.some r.few rows b (label_time k means c.args.labels.now) c.wake.new.labels
-    r.fit r.posted sound c.args.posted.sound r.times c.wake.ensures.times waits
+    begun_row g.met.D.Delay.lawful means c.args.points r.some r.few rows b (label_time k means c.args.labels.now) c.let_wait.new.labels
+    r.fit r.posted sound c.args.posted.sound r.times c.let_wait.ensures.times waits
 
 pub solve-requires-clause-solvable : goal.solve-requires-clause-solvable
 solve-requires-clause-solvable g c = inr (label_time g.D.Delay.kind g.D.Delay.means c.args.labels.now, c.requires.times.solution)

@@ -12,7 +12,7 @@ use Rattle.network.specs.Rounds.{carry}
 use Rattle.network.proofs.Existing.{reached_over}
 use Rattle.network.proofs.Orders.{not_both}
 use Rattle.plans.specs.Questions.{numbered}
-use Rattle.plans.specs.Rounds.{Raised, Round, Fresh, Came, Story, Quiet}
+use Rattle.plans.specs.Rounds.{Raised, Round, Fresh, Came, History, Quiet}
 use Rattle.plans.proofs.Rounding.{rises, le_same}
 
 pub in_points : {k : Kind} (edges : Bounds k) (n : ℕ) → All (Inside k n) edges → (i : ℕ) → i < length edges → Inside k n (numbered edges i)
@@ -50,7 +50,7 @@ module _ {k : Kind} (laws : Lawful k) (edges : Bounds k) (n : ℕ) (inside : All
             laws.transitive _ _ _ (q i l w)
             (laws.shifts _ _ (numbered edges i).delay (rises laws r (numbered edges i).right (in_points edges n inside i l).right))
 
--- the times of a story, with those of one round more
+-- the times of a history, with those of one round more
 abbrev longer : {X : Type 0} → ℕ → (ℕ → ℕ → X) → (ℕ → X) → ℕ → ℕ → X
 longer done times next j p = cond (leb j done) (times j p) (next p)
 
@@ -82,11 +82,11 @@ apart {k} laws x y h e = not_both k y x (le_same laws y x (sym e)) h
 
 module _ {k : Kind} (laws : Lawful k) (edges : Bounds k) (n : ℕ) (inside : All (Inside k n) edges) where
   -- one round more
-  pub story_more : {done : ℕ} {begun : ℕ → Bool} {start : ℕ → Exact k} {via via' : ℕ → ℕ → ℕ} {old : ℕ → Exact k} {waits : ℕ → Bool}
-      {next : ℕ → Exact k} {new : ℕ → ℕ} {again : ℕ → Bool} → Story k edges n done begun start via old waits
+  pub history_more : {done : ℕ} {begun : ℕ → Bool} {start : ℕ → Exact k} {via via' : ℕ → ℕ → ℕ} {old : ℕ → Exact k} {waits : ℕ → Bool}
+      {next : ℕ → Exact k} {new : ℕ → ℕ} {again : ℕ → Bool} → History k edges n done begun start via old waits
       → Round k edges n (length edges) old waits next new again → ((j p : ℕ) → j < done → p < n → via' j p ≡ via j p)
-      → ((p : ℕ) → p < n → via' done p ≡ new p) → Story k edges n (done + 1) begun start via' next again
-  story_more {done} {begun} {start} {via} {via'} {old} {waits} {next} {new} {again} s r before here = record {
+      → ((p : ℕ) → p < n → via' done p ≡ new p) → History k edges n (done + 1) begun start via' next again
+  history_more {done} {begun} {start} {via} {via'} {old} {waits} {next} {new} {again} s r before here = record {
     times = longer done s.times next;
     first = λ p l. low done s.times next 0 p (omega arith) ∙ s.first p l;
     last = λ p l. top done s.times next (done + 1) p (omega arith);

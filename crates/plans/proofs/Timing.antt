@@ -24,7 +24,7 @@ Marked k n fixed added [] = Unit {0}
 Marked k n fixed added (m ∷ ms) = (m ≤ length added) × Timed k n (fixed ++ take m added) × All (λ j. m ≤ j) ms × Marked k n fixed added ms
 
 -- a settled plan has earliest times, and its marks noted such cuts
-pub record Sound (k : Kind) (s : State) : Type 0 where
+pub record HasTimes (k : Kind) (s : State) : Type 0 where
   pub times : s.settled ≡ true → Timed k s.points (rows s)
   pub marked : Marked k s.points s.book.fixed s.book.added s.marks
 
@@ -73,37 +73,37 @@ module _ (k : Kind) (n : ℕ) (fixed : List Row) where
 
 module _ {k : Kind} where
   -- a call keeps it so
-  sound_change : {s t : State} {c : Call} {a : Answer k} → Change k s c a t → Sound k s → Sound k t
-  sound_change (same q) h = h
-  sound_change (settles x e f) h = record { times = λ _. (x, e); marked = h.marked }
-  sound_change {s} (posts {b = b} x e f g) h = record {
+  has_times_change : {s t : State} {c : Call} {a : Answer k} → Change k s c a t → HasTimes k s → HasTimes k t
+  has_times_change (same q) h = h
+  has_times_change (settles x e f) h = record { times = λ _. (x, e); marked = h.marked }
+  has_times_change {s} (posts {b = b} x e f g) h = record {
     times = λ _. (x, rw (append_assoc s.book.fixed s.book.added (b ∷ [])) at e);
     marked = marked_post k s.points s.book.fixed s.book.added b s.marks h.marked;
   }
-  sound_change {s} (marks f) h = record {
+  has_times_change {s} (marks f) h = record {
     times = h.times;
     marked = marked_mark k s.points s.book.fixed s.book.added s.marks (h.times f) h.marked;
   }
-  sound_change {s} (keeps {d = d} e l m f) h = record {
+  has_times_change {s} (keeps {d = d} e l m f) h = record {
     times = h.times;
     marked = marked_close k s.points s.book.fixed s.book.added s.marks (d - 1) h.marked;
   }
-  sound_change {s} (backs {d = d} e l m f) h = let in' : d - 1 < depth s = omega arith in record {
+  has_times_change {s} (backs {d = d} e l m f) h = let in' : d - 1 < depth s = omega arith in record {
     times = λ _. timed_cut k s.points s.book.fixed s.book.added s.marks (d - 1) in' h.marked;
     marked = marked_cut k s.points s.book.fixed s.book.added s.marks (d - 1) in' h.marked;
   }
 
-  pub sound_opened : (s : State) → Opened s → Sound k s
-  sound_opened s o = record {
+  pub has_times_opened : (s : State) → Opened s → HasTimes k s
+  has_times_opened s o = record {
     times = λ z. absurd (both_ways s.settled o.unsettled z);
     marked = subst⁻¹ (Marked k s.points s.book.fixed s.book.added) o.unmarked tt;
   }
 
   -- and so does every run
-  pub sound_run : {s t : State} {xs : List (Said k)} → Run k s xs t → Sound k s → Sound k t
-  sound_run rests h = h
-  sound_run (goes {t = v} {c = c} {a = a} p r) h = sound_run r (sound_change (change c a v p) h)
+  pub has_times_run : {s t : State} {xs : List (Said k)} → Run k s xs t → HasTimes k s → HasTimes k t
+  has_times_run rests h = h
+  has_times_run (goes {t = v} {c = c} {a = a} p r) h = has_times_run r (has_times_change (change c a v p) h)
 
   -- where a run from an opened plan leads to a settled one, that has earliest times
   pub settled_timed : {s t : State} {xs : List (Said k)} → Opened s → Run k s xs t → t.settled ≡ true → Timed k t.points (rows t)
-  settled_timed {s} o r = (sound_run r (sound_opened s o)).times
+  settled_timed {s} o r = (has_times_run r (has_times_opened s o)).times

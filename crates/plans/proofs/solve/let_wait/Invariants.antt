@@ -1,6 +1,6 @@
 use Rattle.std.proofs.Common.{◌≡◌, false, ◌==◌, map}
 use Rattle.plans.proofs.Starting.{Filled}
-use Rattle.plans.proofs.solve.wake.Given as goal
+use Rattle.plans.proofs.solve.let_wait.Given as goal
 
 abbrev pub invariant-loop-p : goal.invariant-loop-p
 invariant-loop-p g l = record {

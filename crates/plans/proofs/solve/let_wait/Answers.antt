@@ -1,7 +1,7 @@
 use Rattle.std.proofs.Common.{false, ◌==◌, refl, ◌∙◌, arith}
 use Rattle.std.proofs.Math.Seq.{map-set_same}
 use Rattle.plans.proofs.Starting.{filled_more}
-use Rattle.plans.proofs.solve.wake.Goals as goal
+use Rattle.plans.proofs.solve.let_wait.Goals as goal
 
 pub loop-p-preserved : goal.loop-p-preserved
 loop-p-preserved g c =
