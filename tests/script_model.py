@@ -138,7 +138,7 @@ def odd_number(rng):
 def random_line(rng, points, scale, ranked):
     if rng.random() < 0.03:
         return bytes(rng.choice(b"\x00\r \t-0TRPQW\x7f\xff") for _ in range(rng.choice([0, 1, 2, 5, 40])))
-    letter = rng.choice("PPPPPPPPQQQQWWWWTR")
+    letter = rng.choice("PPPPPPPPPPPPPPPPQQQQQQQQWWWWWWWWTR")
     if letter in "PQ":
         numbers = random_bound(rng, points + (rng.random() < 0.05), scale, ranked)
     else:
@@ -169,7 +169,7 @@ def edge_scripts(rng):
     for count in (MOST_BYTES - 1, MOST_BYTES, MOST_BYTES + 1, 40_000, 100_000):
         yield b"T 2\nP 0 1 -7 0 " + b"0" * (count - 15)
         yield bytes(rng.randrange(256) for _ in range(count))
-        yield (b"T 2\nP 0 1 -7 0\n" + b"W 1" + b" " * (count - 19) + b"\n").ljust(count, b"W")
+        yield b"T 2\nP 0 1 -7 0\nW 1" + b" " * (count - 19) + b"\n"
     yield b""
 
 
