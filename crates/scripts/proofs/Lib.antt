@@ -1,1 +1,2 @@
 mod Remaining
+pub mod Numbers

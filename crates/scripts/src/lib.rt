@@ -7,5 +7,5 @@ pub mod command;
 pub mod fault;
 
 pub use answer::Answer;
-pub use command::Command;
+pub use command::{Command, command_of};
 pub use fault::ScriptFault;

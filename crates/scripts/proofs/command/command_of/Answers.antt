@@ -1,0 +1,12 @@
+use Rattle.std.proofs.Common.{rules, ◌≡◌, [], ◌∷◌, subst, sym, ◌∙◌, ap, refl}
+use Rattle.scripts.specs.Commands.{FieldsSay}
+use Rattle.scripts.proofs.Numbers.{some_field, one_byte}
+use Rattle.scripts.proofs.command.command_of.Goals as goal
+
+pub returns-in-Some-len1 : goal.returns-in-Some-len1
+returns-in-Some-len1 c =
+    subst (λ fs. FieldsSay fs c.command_in.result)
+    (one_byte _ c.from.result _ _ _ (search rules) c.from.ensures c.in-Some-len1.ensures.steps c.new-fields.ensures) c.command_in.ensures
+
+pub returns-in_default-3 : goal.returns-in_default-3
+returns-in_default-3 c = absurd (some_field c.args.line.now (search rules))
