@@ -1,13 +1,17 @@
 -- What the calls on a plan leave of it. Assumes nothing.
-use Rattle.std.proofs.Common.{◌≡◌, ℕ, ◌+◌, ◌-◌, ◌<◌, true, false, ◌⊎◌, List, [], ◌∷◌, ◌++◌, length, take, sym, refl, ap, ◌∙◌, inl, inr, arith}
-use mathlib.Core.Path.{subst⁻¹}
+use Rattle.std.proofs.Common.{◌≡◌, ℕ, ◌+◌, ◌-◌, ◌<◌, true, false, ◌⊎◌, List, [], ◌∷◌, ◌++◌, length, take, sym, refl, ap, ◌∙◌, subst, inl, inr, arith, ℤ, Ok, Err, Result}
+use Rattle.std.specs.Result.{IsErrAnd}
 use Rattle.bounds.specs.declared.row.Row.{Row}
+use Rattle.books.specs.Layers.{table_of}
 use Rattle.delays.specs.Kind.{Kind, Exact}
 use Rattle.plans.specs.declared.fault.PlanFault.{PlanFault}
 use Rattle.plans.specs.Answers.{Call, settle, post, read, mark, keep, back, Answer, settled, covered, moved, time, slip, done, refused}
 use Rattle.plans.specs.States.{State, rows, depth, opened, settling, posting, marking, closing, cutting, noted}
 use Rattle.plans.specs.Steps.{Ending, Becomes, Check, EachBound, Conflicts, Present, Step}
-use Rattle.scripts.specs.Ready.{Ready}
+use Rattle.scripts.specs.declared.answer.Answer.{Answer as LineAnswer}
+use Rattle.scripts.specs.declared.answer.Answer.TheVariants.{Settled}
+use Rattle.scripts.specs.Sessions.{Session, unopened, Opens, of_fault, points_of, list_length}
+use Rattle.scripts.specs.Ready.{Ready, StaysUnsettled, Settles}
 
 -- the plan is settled as it was, with its number and its open marks
 pub record Kept (s t : State) : Type 0 where
@@ -69,7 +73,7 @@ module _ {k : Kind} where
   tried s u v t number d l b x y p q o r =
       let first = mark_opens s (slip number d) u p r in
       let kept = post_keeps u l b x v q in
-      let same : slip {k = k} number d ≡ slip s.number 1 = first.0 in
+      let same : ◌≡◌ {A = Answer k} (slip number d) (slip s.number 1) = first.0 in
       let one : d ≡ 1 = cc in
       let its : number ≡ s.number = cc in
       let marked : u ≡ marking s = first.1 in
@@ -113,8 +117,8 @@ module _ {k : Kind} where
   pub settle_ready : (s : State) (l count : ℕ) (t : State) → Step k s (settle l) (settled count) t → s.marks ≡ [] → Ready t
   settle_ready s l count t p none = go (settle_ends s l (settled count) t p)
     where
-      go : (((e : PlanFault) × (settled {k = k} count ≡ refused e) × (t ≡ s)) ⊎ Settling s (settled count) t) → Ready t
-      go (inl q) = let bad : settled {k = k} count ≡ refused q.0 = q.1 in cc
+      go : (((e : PlanFault) × (◌≡◌ {A = Answer k} (settled count) (refused e)) × (t ≡ s)) ⊎ Settling s (settled count) t) → Ready t
+      go (inl q) = let bad : ◌≡◌ {A = Answer k} (settled count) (refused q.0) = q.1 in cc
       go (inr q) =
           let same : t ≡ settling s = q.1.1 in
           record { settled = ap (λ (s : State). s.settled) same; unmarked = ap (λ (s : State). s.marks) same ∙ none }
@@ -123,6 +127,27 @@ module _ {k : Kind} where
   pub settle_stays : (s : State) (l : ℕ) (e : PlanFault) (t : State) → Step k s (settle l) (refused e) t → s.settled ≡ false → t.settled ≡ true → ⊥
   settle_stays s l e t p before after = go (settle_ends s l (refused e) t p)
     where
-      go : (((f : PlanFault) × (refused {k = k} e ≡ refused f) × (t ≡ s)) ⊎ Settling s (refused e) t) → ⊥
+      go : (((f : PlanFault) × (◌≡◌ {A = Answer k} (refused e) (refused f)) × (t ≡ s)) ⊎ Settling s (refused e) t) → ⊥
       go (inl q) = let same : t.settled ≡ s.settled = ap (λ (s : State). s.settled) q.2 in cc
-      go (inr q) = let bad : refused {k = k} e ≡ settled q.0 = q.1.0 in cc
+      go (inr q) = let bad : ◌≡◌ {A = Answer k} (refused e) (settled q.0) = q.1.0 in cc
+
+module _ {k : Kind} {P : Type 0} (state : P → State) (n : ℤ) where
+  -- a plan that is not settled is refused
+  pub settles_not : (r : Result (P × ℕ) PlanFault) (e : PlanFault) (t : State) → IsErrAnd r (λ f. f ≡ e)
+      → Step k (opened (table_of []) (points_of n) 0) (settle list_length) (refused e) t → Settles k state n r
+  settles_not (Ok p) e t none step = absurd none
+  settles_not (Err f) e t same step =
+      (t, subst (λ f. Step k (opened (table_of []) (points_of n) 0) (settle list_length) (refused f) t) (sym same) step,
+      settle_stays (opened (table_of []) (points_of n) 0) list_length e t step refl)
+
+module _ {k : Kind} {m n : ℤ} (same : m ≡ n) (session : State → Session) where
+  -- a plan that is settled opens a session
+  pub opens_settled : (t : State) (count : ℕ) → Step k (opened (table_of []) (points_of m) 0) (settle list_length) (settled count) t × Ready t
+      → Opens k session n (Settled count) (session t)
+  opens_settled t count h =
+      (settled count, t, subst (λ (n : ℤ). Step k (opened (table_of []) (points_of n) 0) (settle list_length) (settled count) t) same h.0, refl, inl (h.1.settled, refl))
+
+  -- and a refused one opens none
+  pub opens_none : (e : PlanFault) (a : LineAnswer) → a ≡ of_fault e → StaysUnsettled k m e → Opens k session n a unopened
+  opens_none e a says h =
+      (refused e, h.0, subst (λ (n : ℤ). Step k (opened (table_of []) (points_of n) 0) (settle list_length) (refused e) h.0) same h.1, says, inr (h.2, refl))

@@ -48,7 +48,11 @@ abbrev pub Tried : (k : Kind) → State → Row → Result Posted PlanFault → 
 Tried k s b r t = (u v : State) × (number depth : ℕ)
     × Step k s mark (slip number depth) u × Step k u (post list_length b) (post_answer r) v × Step k v (back number depth) done t
 
--- a plan of so many points over an empty table was settled, or stays unsettled
+-- a plan of so many points over an empty table is refused, and stays unsettled
+abbrev pub StaysUnsettled : Kind → ℤ → PlanFault → Type 0
+StaysUnsettled k n e = (t : State) × Step k (opened (table_of []) (points_of n) 0) (settle list_length) (refused e) t × (t.settled ≡ true → ⊥)
+
+-- a plan of so many points over an empty table is settled and ready, or refused
 abbrev pub Settles : (k : Kind) → {P : Type 0} → (P → State) → ℤ → Result (P × ℕ) PlanFault → Type 0
 Settles k state n (Ok (plan, count)) = Step k (opened (table_of []) (points_of n) 0) (settle list_length) (settled count) (state plan) × Ready (state plan)
-Settles k state n (Err e) = (t : State) × Step k (opened (table_of []) (points_of n) 0) (settle list_length) (refused e) t × (t.settled ≡ true → ⊥)
+Settles k state n (Err e) = StaysUnsettled k n e

@@ -5,6 +5,7 @@ pub mod answer;
 mod asking;
 pub mod command;
 pub mod fault;
+mod session;
 
 pub use answer::Answer;
 pub use command::{Command, command_of};

@@ -6,8 +6,7 @@ ghost use Rattle.scripts.specs.Plans.{session_of};
 
 use crate::answer::Answer;
 use crate::asking::{fault_answer, obey, settled_answer, settled_plan};
-use crate::command::Command;
-use crate::command_of;
+use crate::command::{Command, command_of};
 use crate::fault::ScriptFault;
 use books::Table;
 use delays::{Ranked, Ticks};

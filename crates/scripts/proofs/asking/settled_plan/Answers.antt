@@ -6,7 +6,7 @@ use Rattle.plans.specs.Steps.{Step}
 use Rattle.plans.specs.Plans.{state_of, settle_answer}
 use Rattle.scripts.specs.Sessions.{points_of, list_length}
 use Rattle.scripts.specs.Ready.{Settles}
-use Rattle.scripts.proofs.Remaining.{settle_ready, settle_stays}
+use Rattle.scripts.proofs.Remaining.{settle_ready, settles_not}
 use Rattle.scripts.proofs.asking.settled_plan.Goals as goal
 
 pub returns-in_err-count : goal.returns-in_err-count
@@ -19,8 +19,7 @@ returns-in_err-count g c =
         c.open-plan.ensures.opened ∙ ap (λ m. opened m c.point_count.result 0) c.new.ensures ∙ ap (λ (n : ℕ). opened (table_of []) n 0) (c.point_count.ensures ∙ ap points_of read) in
     let step : Step k (opened (table_of []) (points_of c.args.points) 0) (settle list_length) (refused e) t =
         subst (λ (s : State). Step k s (settle list_length) (refused e) t) first c.in_err-count.ensures.step in
-    subst (Settles k state_of c.args.points) (sym c.from_residual.ensures.1)
-    (t, (step, settle_stays (opened (table_of []) (points_of c.args.points) 0) list_length e t step refl))
+    settles_not state_of c.args.points c.from_residual.result e t c.from_residual.ensures.1 step
 
 pub returns : goal.returns
 returns g c =
