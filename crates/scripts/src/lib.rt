@@ -4,6 +4,7 @@
 pub mod answer;
 pub mod command;
 pub mod fault;
+mod text;
 
 pub use answer::Answer;
 pub use command::{Command, command_of};
