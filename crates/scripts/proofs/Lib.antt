@@ -1,2 +1,3 @@
 mod Remaining
 pub mod Numbers
+pub mod Widths

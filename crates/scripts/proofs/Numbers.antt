@@ -1,5 +1,5 @@
 -- The numbers of a line's fields make its command. Assumes nothing.
-use Rattle.std.proofs.Common.{◌≡◌, ℕ, ◌⊎◌, List, [], ◌∷◌, ◌+◌, length, ℤ, pos, Ok, Err, Result, slice_index_or, ◌==◌, inl, inr, refl, ap, sym, subst, ◌∙◌, arith}
+use Rattle.std.proofs.Common.{◌≡◌, ℕ, List, [], ◌∷◌, length, ℤ, pos, Ok, Err, Result, slice_index_or, ◌==◌, inr, refl, ap, sym, subst, ◌∙◌, arith}
 use Rattle.std.proofs.lemmas.List.Splits.{length-slice_split}
 use Rattle.bounds.specs.declared.bound.Bound.{Bound as BoundType}
 use Rattle.bounds.specs.declared.fault.BoundFault.{BoundFault}

@@ -4,3 +4,4 @@ pub mod Texts
 pub mod Sessions
 pub mod Ready
 pub mod Plans
+pub mod Room

@@ -6,6 +6,7 @@ mod asking;
 pub mod command;
 pub mod fault;
 mod session;
+mod text;
 
 pub use answer::Answer;
 pub use command::{Command, command_of};

@@ -14,10 +14,16 @@ returns-in_err-left c make =
 pub returns-in_err-new : goal.returns-in_err-new
 returns-in_err-new c make =
     let is : c.from_residual-in_err-new.result ≡ Err (Bound c.in_err-new.field-0.0) = search rules in
-    inl (c.in_ok-left.field-0, c.in_ok-left.ensures,
-      four_refuse make c.in_ok-left.field-0 c.in_err-new.field-0.0 _ (search rules) (ap (result_map_both make (λ e. e)) is) (search (rules, c.in_err-new.ensures)))
+    inl (
+      c.in_ok-left.field-0,
+      c.in_ok-left.ensures,
+      four_refuse make c.in_ok-left.field-0 c.in_err-new.field-0.0 _ (search rules) (ap (result_map_both make (λ e. e)) is) (search (rules, c.in_err-new.ensures)),
+    )
 
 pub returns : goal.returns
 returns c make =
-    inl (c.in_ok-left.field-0, c.in_ok-left.ensures,
-      four_make make c.in_ok-left.field-0 c.in_ok-new.field-0 (search rules) (search (rules, c.in_ok-new.ensures)))
+    inl (
+      c.in_ok-left.field-0,
+      c.in_ok-left.ensures,
+      four_make make c.in_ok-left.field-0 c.in_ok-new.field-0 (search rules) (search (rules, c.in_ok-new.ensures)),
+    )

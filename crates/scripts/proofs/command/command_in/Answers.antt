@@ -1,4 +1,4 @@
-use Rattle.std.proofs.Common.{rules, ap, inl, inr, ◌∷◌, []}
+use Rattle.std.proofs.Common.{rules, inl, inr}
 use Rattle.scripts.specs.declared.command.Command.TheVariants.{Ticks, Ranked, Post, Try}
 use Rattle.scripts.proofs.command.command_in.Goals as goal
 

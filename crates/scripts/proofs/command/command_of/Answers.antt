@@ -1,4 +1,4 @@
-use Rattle.std.proofs.Common.{rules, ◌≡◌, [], ◌∷◌, subst, sym, ◌∙◌, ap, refl}
+use Rattle.std.proofs.Common.{rules, subst}
 use Rattle.scripts.specs.Commands.{FieldsSay}
 use Rattle.scripts.proofs.Numbers.{some_field, one_byte}
 use Rattle.scripts.proofs.command.command_of.Goals as goal
