@@ -1,3 +1,4 @@
 mod Remaining
 pub mod Numbers
 pub mod Widths
+mod Progress

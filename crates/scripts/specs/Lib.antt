@@ -5,3 +5,5 @@ pub mod Sessions
 pub mod Ready
 pub mod Plans
 pub mod Room
+pub mod Lines
+pub mod Listings

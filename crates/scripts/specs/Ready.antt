@@ -1,7 +1,6 @@
--- How a session stands between two lines, and which answers are short. Assumes nothing.
+-- How a session stands between two lines, and what is tried and settled in it. Assumes nothing.
 use Rattle.std.specs.Prelude.{◌≡◌, ℕ, ◌≤◌, true, List, [], ℤ, unsigned_abs, Ok, Err, Result, ⊤}
 use Rattle.delays.specs.Kind.{Kind, Exact, Within}
-use Rattle.delays.specs.Sizes.{number_reach}
 use Rattle.bounds.specs.declared.row.Row.{Row}
 use Rattle.books.specs.Layers.{table_of}
 use Rattle.plans.specs.declared.fault.PlanFault.{PlanFault}
@@ -10,8 +9,7 @@ use Rattle.plans.specs.Answers.{settle, post, mark, back, settled, slip, done, r
 use Rattle.plans.specs.Plans.{post_answer}
 use Rattle.plans.specs.States.{State, opened}
 use Rattle.plans.specs.Steps.{Step}
-use Rattle.scripts.specs.declared.answer.Answer.{Answer}
-use Rattle.scripts.specs.declared.answer.Answer.TheVariants.{Settled, Moved, Covered, Conflict, Time, Refused}
+use Rattle.scripts.specs.Room.{ShortPart}
 use Rattle.scripts.specs.Sessions.{Session, unopened, in_ticks, in_ranked, list_length, points_of}
 
 -- a settled plan with no mark open
@@ -25,23 +23,9 @@ Between unopened = ⊤
 Between (in_ticks s) = Ready s
 Between (in_ranked s) = Ready s
 
--- parts of a size within the reach of a number
-pub record Short (t s : ℤ) : Type 0 where
-  pub first : unsigned_abs t ≤ number_reach
-  pub second : unsigned_abs s ≤ number_reach
-
 -- a kind whose values have short parts
 abbrev pub ShortParts : Kind → Type 0
-ShortParts k = (x : Exact k) → Within k x → Short (k.t x) (k.s x)
-
--- where the answer is a time, its parts are short
-abbrev pub ShortAnswer : Answer → Type 0
-ShortAnswer (Settled count) = ⊤
-ShortAnswer (Moved count) = ⊤
-ShortAnswer Covered = ⊤
-ShortAnswer Conflict = ⊤
-ShortAnswer (Time point t s) = Short t s
-ShortAnswer (Refused f) = ⊤
+ShortParts k = (x : Exact k) → Within k x → ShortPart (k.t x) × ShortPart (k.s x)
 
 -- a bound was posted between a mark and a back
 abbrev pub Tried : (k : Kind) → State → Row → Result Posted PlanFault → State → Type 0

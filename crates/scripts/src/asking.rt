@@ -5,7 +5,8 @@ ghost use Rattle.plans.specs.Plans.{state_of, settle_answer, post_answer, read_a
 ghost use Rattle.scripts.specs.declared.command.Command.TheVariants.{Post, Try, Read};
 ghost use Rattle.scripts.specs.Sessions.{of_fault, Answers, Obeys, points_of};
 ghost use Rattle.bounds.specs.Making.{row_of};
-ghost use Rattle.scripts.specs.Ready.{Ready, ShortParts, ShortAnswer, Tried, Settles};
+ghost use Rattle.scripts.specs.Room.{ShortTime};
+ghost use Rattle.scripts.specs.Ready.{Ready, ShortParts, Tried, Settles};
 
 use crate::answer::Answer;
 use crate::command::Command;
@@ -22,7 +23,7 @@ pub(crate) const LIST_LENGTH: usize = 128;
 // A conflict has a letter of its own; another fault is told by its number, layer and place.
 pub(crate) fn fault_answer(fault: PlanFault) -> Answer
     ensures says { result ≡ of_fault fault }
-    ensures short { ShortAnswer result }
+    ensures short { ShortTime result }
 {
     match fault {
         PlanFault::Conflict { length: _ } => Answer::Conflict,
@@ -32,7 +33,7 @@ pub(crate) fn fault_answer(fault: PlanFault) -> Answer
 
 pub(crate) fn settled_answer(outcome: Result<usize, PlanFault>) -> Answer
     ensures says { (k : Kind) → Answers k 0 (settle_answer outcome) result }
-    ensures short { ShortAnswer result }
+    ensures short { ShortTime result }
 {
     match outcome {
         Ok(count) => Answer::Settled { count },
@@ -42,7 +43,7 @@ pub(crate) fn settled_answer(outcome: Result<usize, PlanFault>) -> Answer
 
 fn posted_answer(outcome: Result<Posted, PlanFault>) -> Answer
     ensures says { (k : Kind) → Answers k 0 (post_answer outcome) result }
-    ensures short { ShortAnswer result }
+    ensures short { ShortTime result }
 {
     match outcome {
         Ok(Posted::Covered) => Answer::Covered,
@@ -54,7 +55,7 @@ fn posted_answer(outcome: Result<Posted, PlanFault>) -> Answer
 fn time_answer<D: Delay>(point: u16, outcome: Result<D, PlanFault>) -> Answer
     requires parts { ShortParts D.kind }
     ensures says { Answers D.kind point (read_answer D.means outcome) result }
-    ensures short { ShortAnswer result }
+    ensures short { ShortTime result }
 {
     match outcome {
         Ok(time) => {
@@ -83,7 +84,7 @@ pub(crate) fn obey<D: Delay, B: Book>(plan: &mut Plan<D, B>, command: Command) -
     requires ready { Ready (state_of plan.now) }
     ensures obeys { Obeys D.kind (state_of plan.old) command result (state_of plan.new) }
     ensures ready { Ready (state_of plan.new) }
-    ensures short { ShortAnswer result }
+    ensures short { ShortTime result }
 {
     match command {
         Command::Ticks { points: _ } | Command::Ranked { points: _ } => fault_answer(PlanFault::SettledAlready),

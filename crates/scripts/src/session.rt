@@ -1,7 +1,8 @@
 // A script's session: the plan that its lines are about, and what they are answered.
 ghost use Rattle.std.specs.Prelude.{◌≡◌};
 ghost use Rattle.scripts.specs.Sessions.{Answered, LineAnswered, unopened};
-ghost use Rattle.scripts.specs.Ready.{Between, ShortAnswer};
+ghost use Rattle.scripts.specs.Room.{ShortTime};
+ghost use Rattle.scripts.specs.Ready.{Between};
 ghost use Rattle.scripts.specs.Plans.{session_of};
 
 use crate::answer::Answer;
@@ -26,7 +27,7 @@ impl Session {
     fn begin(command: Command) -> (Session, Answer)
         ensures answered { Answered unopened command result.1 (session_of result.0) }
         ensures between { Between (session_of result.0) }
-        ensures short { ShortAnswer result.1 }
+        ensures short { ShortTime result.1 }
     {
         match command {
             Command::Ticks { points } => match settled_plan(points) {
@@ -48,7 +49,7 @@ impl Session {
         requires between { Between (session_of self.now) }
         ensures answered { Answered (session_of self.old) command result (session_of self.new) }
         ensures between { Between (session_of self.new) }
-        ensures short { ShortAnswer result }
+        ensures short { ShortTime result }
     {
         match self {
             Session::Unopened => {
@@ -66,7 +67,7 @@ impl Session {
         requires between { Between (session_of self.now) }
         ensures answered { LineAnswered (session_of self.old) line.now result (session_of self.new) }
         ensures between { Between (session_of self.new) }
-        ensures short { ShortAnswer result }
+        ensures short { ShortTime result }
     {
         match command_of(line) {
             Ok(command) => self.obey(command),
