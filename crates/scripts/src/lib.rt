@@ -4,6 +4,7 @@
 pub mod answer;
 pub mod command;
 pub mod fault;
+mod script;
 mod text;
 
 pub use answer::Answer;
