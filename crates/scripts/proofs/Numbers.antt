@@ -1,22 +1,16 @@
 -- The numbers of a line's fields make its command. Assumes nothing.
-use Rattle.std.proofs.Common.{◌≡◌, ℕ, List, [], ◌∷◌, length, ℤ, pos, Ok, Err, Result, slice_index_or, ◌==◌, inr, refl, ap, sym, subst, ◌∙◌, arith}
-use Rattle.std.proofs.lemmas.List.Splits.{length-slice_split}
+use Rattle.std.proofs.Common.{◌≡◌, ℕ, List, [], ◌∷◌, length, ℤ, pos, Ok, Err, Result, slice_index_or, inr, refl, ap, sym, subst, ◌∙◌, arith}
 use Rattle.bounds.specs.declared.bound.Bound.{Bound as BoundType}
 use Rattle.bounds.specs.declared.fault.BoundFault.{BoundFault}
 use Rattle.bounds.specs.Making.{Made}
 use Rattle.lines.specs.declared.fault.LineFault.{LineFault}
 use Rattle.lines.specs.declared.fault.LineFault.TheVariants.{Unreadable}
 use Rattle.lines.specs.Decimal.{number}
-use Rattle.lines.specs.Fields.{fields}
 use Rattle.lines.specs.Reading.{readings, listed}
 use Rattle.scripts.specs.declared.command.Command.{Command}
 use Rattle.scripts.specs.declared.fault.ScriptFault.{ScriptFault}
 use Rattle.scripts.specs.declared.fault.ScriptFault.TheVariants.{Line, Bound}
 use Rattle.scripts.specs.Commands.{BoundCommand, Numbers}
-
--- a line has a field
-pub some_field : (line : List ℕ) → fields line ≡ [] → ⊥
-some_field line none = omega (arith, length-slice_split (λ c. c == 32) line, ap length none)
 
 -- a field of one byte, before the others
 pub one_byte : (first : List ℕ) (letter : ℕ) (rest whole fs : List (List ℕ)) → length first ≡ 1 → letter ≡ slice_index_or first 0 0

@@ -8,6 +8,7 @@ pub mod fault;
 pub mod listing;
 mod script;
 mod session;
+mod script;
 mod text;
 
 pub use answer::Answer;

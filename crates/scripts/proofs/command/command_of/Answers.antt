@@ -1,6 +1,7 @@
-use Rattle.std.proofs.Common.{rules, subst}
+use Rattle.std.proofs.Common.{rules, eqb, subst}
 use Rattle.scripts.specs.Commands.{FieldsSay}
-use Rattle.scripts.proofs.Numbers.{some_field, one_byte}
+use Rattle.scripts.proofs.Lines.{some_part}
+use Rattle.scripts.proofs.Numbers.{one_byte}
 use Rattle.scripts.proofs.command.command_of.Goals as goal
 
 pub returns-in-Some-len1 : goal.returns-in-Some-len1
@@ -9,4 +10,4 @@ returns-in-Some-len1 c =
     (one_byte _ c.from.result _ _ _ (search rules) c.from.ensures c.in-Some-len1.ensures.steps c.new-fields.ensures) c.command_in.ensures
 
 pub returns-in_default-3 : goal.returns-in_default-3
-returns-in_default-3 c = absurd (some_field c.args.line.now (search rules))
+returns-in_default-3 c = absurd (some_part (λ b. eqb b 32) c.args.line.now (search rules))
