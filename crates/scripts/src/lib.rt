@@ -8,7 +8,6 @@ pub mod fault;
 pub mod listing;
 mod script;
 mod session;
-mod script;
 mod text;
 
 pub use answer::Answer;
