@@ -3,3 +3,5 @@ pub mod Numbers
 pub mod Widths
 mod Progress
 pub mod Lines
+mod Readings
+mod Once

@@ -1,5 +1,5 @@
 -- The listing of a script, and where it is written. Assumes nothing.
-use Rattle.std.specs.Prelude.{◌≡◌, ℕ, ◌*◌, ◌<◌, ◌≤◌, ◌⊎◌, List, ◌++◌, length, drop, Ok, Err, Result}
+use Rattle.std.specs.Prelude.{◌≡◌, ℕ, ◌*◌, ◌<◌, ◌≤◌, ◌⊎◌, List, ◌++◌, length, drop, ℤ, pos, negsuc, Ok, Err, Result}
 use Rattle.scripts.specs.declared.fault.ScriptFault.{ScriptFault}
 use Rattle.scripts.specs.declared.fault.ScriptFault.TheVariants.{Room}
 use Rattle.scripts.specs.Lines.{script_lines}
@@ -31,3 +31,8 @@ Listed script before after (Err e) =
 -- a script has one listing
 abbrev pub OneListing : List ℕ → Type 0
 OneListing script = (x y : List ℕ) → ListingOf script x → ListingOf script y → x ≡ y
+
+-- the same, where the length is a number of 64 bits, and any refusal is -14
+abbrev pub ListedInC : List ℕ → List ℕ → List ℕ → ℤ → Type 0
+ListedInC script before after (pos n) = Listed script before after (Ok n)
+ListedInC script before after (negsuc n) = (n ≡ 13) × Listed script before after (Err Room)

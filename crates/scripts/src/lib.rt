@@ -3,6 +3,7 @@
 
 pub mod answer;
 mod asking;
+pub mod call;
 pub mod command;
 pub mod fault;
 pub mod listing;

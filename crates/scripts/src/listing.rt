@@ -1,7 +1,7 @@
 // The listing of a script: the answer to each of its lines.
-ghost use Rattle.std.specs.Prelude.{◌≡◌, ◌+◌, ◌*◌, ◌≤◌, ◌++◌, length, take, drop};
+ghost use Rattle.std.specs.Prelude.{◌≡◌, ◌+◌, ◌*◌, ◌≤◌, ◌++◌, length, take, drop, IfOk};
 ghost use Rattle.scripts.specs.Lines.{script_lines};
-ghost use Rattle.scripts.specs.Listings.{Written, Listed};
+ghost use Rattle.scripts.specs.Listings.{Written, Listed, OneListing};
 
 use crate::fault::ScriptFault;
 use crate::script::{line_count, next_line};
@@ -23,7 +23,8 @@ fn put(output: &mut [u8], place: usize, bytes: &[u8])
 fn write_lines(script: &[u8], output: &mut [u8]) -> usize
     requires short { length script.now ≤ 32768 }
     requires room { 64 * length (script_lines script.now) ≤ length output.old }
-    ensures { Written script.now output.old output.new result }
+    ensures written { Written script.now output.old output.new result }
+    ensures fits { result ≤ length output.old }
 {
     let mut session = Session::Unopened;
     let mut left = script;
@@ -41,8 +42,11 @@ fn write_lines(script: &[u8], output: &mut [u8]) -> usize
 
 // Writes the listing of the script at the start of the output, and answers its length; or refuses, and writes nothing, where the script has
 // more than 32,768 bytes or the output fewer than 64 bytes a line.
+#[tactic(auto, using(crate::proofs::Once::one_listing))]
 pub fn list(script: &[u8], output: &mut [u8]) -> Result<usize, ScriptFault>
-    ensures { Listed script.now output.old output.new result }
+    ensures listed { Listed script.now output.old output.new result }
+    ensures fits { IfOk result (λ n. n ≤ length output.old) }
+    ensures one { OneListing script.now }
 {
     if script.len() > SCRIPT_BYTES || output.len() / LINE_BYTES < line_count(script) {
         return Err(ScriptFault::Room);

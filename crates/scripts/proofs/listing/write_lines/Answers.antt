@@ -1,4 +1,4 @@
-use Rattle.std.proofs.Common.{◌≡◌, ◌+◌, ◌++◌, length, take, drop, sym, ap, ◌∙◌, subst}
+use Rattle.std.proofs.Common.{◌≡◌, ◌+◌, ◌++◌, length, take, drop, sym, ap, ◌∙◌, subst, arith}
 use Rattle.scripts.specs.Texts.{line_text}
 use Rattle.scripts.proofs.Progress.{goes_on, ends}
 use Rattle.scripts.proofs.listing.write_lines.Goals as goal
@@ -13,5 +13,8 @@ loop-line-preserved c =
     goes_on c.loop-line.invariant c.in-Some.ensures.lines c.in-Some.ensures.shorter c.answer.ensures.answered c.answer.ensures.between put
     c.answer_line-text.ensures.fits (ap (λ n. written + n) (c.len-written.ensures.value ∙ ap length text))
 
-pub returns : goal.returns
-returns c = ends c.loop-line.invariant c.in_default.ensures.lines
+pub returns-clause-written : goal.returns-clause-written
+returns-clause-written c = ends c.loop-line.invariant c.in_default.ensures.lines
+
+pub returns-clause-fits : goal.returns-clause-fits
+returns-clause-fits c = let h = c.loop-line.invariant.room in omega (arith, h)
