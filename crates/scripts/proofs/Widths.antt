@@ -37,14 +37,6 @@ hundredths_width t short = signed_width (hundredths t) (omega (arith, tenth (t +
 pub number_width : (n : ℕ) → n ≤ 32768 → length (decimal n) ≤ 5
 number_width n few = length-decimal-le 5 n (omega arith) (omega arith) (omega arith)
 
--- the number of a point
-pub point_width : (n : ℕ) → n < 2 ^ 16 → length (decimal n) ≤ 5
-point_width n few = length-decimal-le 5 n (omega arith) (omega arith) (omega arith)
-
--- any count
-pub count_width : (n : ℕ) → n < 2 ^ 64 → length (decimal n) ≤ 20
-count_width n few = length-decimal-le 20 n (omega arith) (omega arith) few
-
 -- the letter of a layer is one byte
 pub letter_byte : (l : Layer) → letter_of l < 128
 letter_byte Bounds = omega arith

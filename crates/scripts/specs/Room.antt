@@ -4,7 +4,7 @@ use Rattle.delays.specs.Sizes.{number_reach}
 use Rattle.scripts.specs.declared.answer.Answer.{Answer}
 use Rattle.scripts.specs.declared.answer.Answer.TheVariants.{Settled, Moved, Covered, Conflict, Time, Refused}
 
--- the size of a part of a time is at most that of an exact number that a plan in ticks has
+-- the size of a part of a time is at most the greatest that a delay's number has
 abbrev pub ShortPart : ℤ → Type 0
 ShortPart z = unsigned_abs z ≤ number_reach
 

@@ -86,8 +86,8 @@ pub fn command_of(line: &[u8]) -> Result<Command, ScriptFault>
     ensures { CommandOf line.now result }
 {
     let mut fields = Fields::new(line);
-    match fields.next() {
-        Some([letter]) => command_in(char::from(*letter), &mut fields),
-        _ => Err(ScriptFault::Line(LineFault::Unreadable { field: 0 })),
-    }
+    let Some([letter]) = fields.next() else {
+        return Err(ScriptFault::Line(LineFault::Unreadable { field: 0 }));
+    };
+    command_in(char::from(*letter), &mut fields)
 }

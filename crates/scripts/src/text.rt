@@ -1,5 +1,5 @@
-// The line that is printed for an answer. It is written into 64 bytes, and nothing is allocated.
-ghost use Rattle.std.specs.Prelude.{◌≡◌, ◌≤◌, ◌+◌, ◌<◌, [], ◌∷◌, ◌++◌, codes, decimal, length};
+// What is printed of an answer. It is written into an array, and nothing is allocated.
+ghost use Rattle.std.specs.Prelude.{◌≡◌, ◌≤◌, ◌+◌, ◌<◌, [], ◌∷◌, ◌++◌, Some, codes, decimal, length};
 ghost use Rattle.std.specs.Fmt.{signed_decimal};
 ghost use Rattle.arrayvec.specs.ArrayString.{array_string_len};
 ghost use Rattle.faults.specs.Faults.{letter_of};
@@ -10,105 +10,115 @@ use crate::answer::Answer;
 use arrayvec::ArrayString;
 use faults::Fault;
 use itoa::{Buffer, Integer};
+use std::fmt;
 
-// The most bytes of a line.
+// The most bytes of a line, where the parts of a time in it are short.
 pub(crate) const LINE_BYTES: usize = 64;
 
-// Milliseconds in hundredths of a second, halves up.
-fn hundredths(t: i64) -> i64
-    requires { ShortPart t }
+// No answer is longer, whatever its numbers are.
+const ANSWER_BYTES: usize = 96;
+
+// Milliseconds in hundredths of a second, halves up. In so wide a type no time is too great for the sum.
+fn hundredths(t: i64) -> i128
     ensures { result ≡ hundredths_of t }
 {
-    (t + 5).div_euclid(10)
+    (i128::from(t) + 5).div_euclid(10)
 }
 
-// One word more of a line, after a space.
-fn add_word(line: &mut ArrayString<LINE_BYTES>, word: &str)
-    requires room { array_string_len line.old + 1 + length word.now ≤ 64 }
-    ensures text { line.new.bytes ≡ line.old.bytes ++ (codes " " ++ word.now) }
-    ensures size { array_string_len line.new ≡ array_string_len line.old + 1 + length word.now }
-{
-    line.push_str(" ");
-    line.push_str(word);
-}
-
-// One letter more of a line, after a space.
-fn add_letter(line: &mut ArrayString<LINE_BYTES>, letter: char)
-    requires room { array_string_len line.old + 2 ≤ 64 }
+// One letter.
+fn lettered(letter: char) -> ArrayString<ANSWER_BYTES>
     requires ascii { letter < 128 }
-    ensures text { line.new.bytes ≡ line.old.bytes ++ (codes " " ++ (letter ∷ [])) }
-    ensures size { array_string_len line.new ≡ array_string_len line.old + 2 }
+    ensures text { result.bytes ≡ letter ∷ [] }
+    ensures size { array_string_len result ≡ 1 }
 {
-    line.push_str(" ");
-    line.push(letter);
+    let mut text = ArrayString::new();
+    text.push(letter);
+    text
 }
 
-// One number more of a line, after a space.
-fn add_number<I: Integer>(line: &mut ArrayString<LINE_BYTES>, n: I)
-    requires room { array_string_len line.old + 1 + length (I.text n) ≤ 64 }
-    ensures text { line.new.bytes ≡ line.old.bytes ++ (codes " " ++ I.text n) }
-    ensures size { array_string_len line.new ≡ array_string_len line.old + 1 + length (I.text n) }
-{
-    add_word(line, Buffer::new().format(n));
-}
-
-// A letter and a count, after the number of the line.
-#[tactic(auto, using(crate::proofs::Widths::count_width))]
-fn add_count(line: &mut ArrayString<LINE_BYTES>, letter: char, count: usize)
-    requires room { array_string_len line.old ≤ 5 }
+// One letter more, after a space.
+fn add_letter(text: &mut ArrayString<ANSWER_BYTES>, letter: char)
+    requires room { array_string_len text.old + 2 ≤ 96 }
     requires ascii { letter < 128 }
-    ensures text { line.new.bytes ≡ line.old.bytes ++ (codes " " ++ spaced ((letter ∷ []) ∷ (decimal count ∷ []))) }
-    ensures short { array_string_len line.new ≤ 63 }
+    ensures text { text.new.bytes ≡ text.old.bytes ++ (codes " " ++ (letter ∷ [])) }
+    ensures size { array_string_len text.new ≡ array_string_len text.old + 2 }
 {
-    add_letter(line, letter);
-    add_number(line, count);
+    text.push_str(" ");
+    text.push(letter);
 }
 
-// The earliest time of a point, after the number of the line.
-#[tactic(auto, using(crate::proofs::Widths::point_width, crate::proofs::Widths::part_width, crate::proofs::Widths::hundredths_width))]
-fn add_time(line: &mut ArrayString<LINE_BYTES>, point: u16, t: i64, s: i64)
-    requires room { array_string_len line.old ≤ 5 }
-    requires short_t { ShortPart t }
-    requires short_s { ShortPart s }
-    ensures text { line.new.bytes ≡ line.old.bytes ++ (codes " " ++ spaced (codes "W" ∷ (decimal point ∷ (signed_decimal t ∷ (signed_decimal s
-        ∷ (signed_decimal (hundredths_of t) ∷ [])))))) }
-    ensures short { array_string_len line.new ≤ 63 }
+// One number more, after a space.
+fn add_number<I: Integer>(text: &mut ArrayString<ANSWER_BYTES>, n: I)
+    requires room { array_string_len text.old + 1 + I.MAX_STR_LEN ≤ 96 }
+    ensures text { text.new.bytes ≡ text.old.bytes ++ (codes " " ++ I.text n) }
+    ensures size { array_string_len text.new ≡ array_string_len text.old + 1 + length (I.text n) }
+    ensures fits { length (I.text n) ≤ I.MAX_STR_LEN }
 {
-    add_word(line, "W");
-    add_number(line, point);
-    add_number(line, t);
-    add_number(line, s);
-    add_number(line, hundredths(t));
+    let mut digits = Buffer::new();
+    let number = digits.format(n);
+    text.push_str(" ");
+    text.push_str(number);
 }
 
-// A fault, after the number of the line.
-#[tactic(auto, using(crate::proofs::Widths::count_width, crate::proofs::Widths::letter_byte))]
-fn add_fault(line: &mut ArrayString<LINE_BYTES>, fault: Fault)
-    requires room { array_string_len line.old ≤ 5 }
-    ensures text { line.new.bytes ≡ line.old.bytes ++ (codes " " ++ spaced (codes "E" ∷ (decimal fault.number ∷ ((letter_of fault.layer ∷ [])
-        ∷ (decimal fault.place ∷ []))))) }
-    ensures short { array_string_len line.new ≤ 63 }
+// A letter and a count.
+fn counted(letter: char, count: usize) -> ArrayString<ANSWER_BYTES>
+    requires ascii { letter < 128 }
+    ensures text { result.bytes ≡ spaced ((letter ∷ []) ∷ (decimal count ∷ [])) }
+    ensures short { array_string_len result ≤ 57 }
 {
-    add_word(line, "E");
-    add_number(line, fault.number);
-    add_letter(line, char::from(fault.layer));
-    add_number(line, fault.place);
+    let mut text = lettered(letter);
+    add_number(&mut text, count);
+    text
 }
 
-// The words of an answer, after the number of the line.
-fn add_answer(line: &mut ArrayString<LINE_BYTES>, answer: Answer)
-    requires room { array_string_len line.old ≤ 5 }
-    requires short_time { ShortTime answer }
-    ensures text { line.new.bytes ≡ line.old.bytes ++ (codes " " ++ answer_text answer) }
-    ensures short { array_string_len line.new ≤ 63 }
+// The earliest time of a point.
+#[tactic(auto, using(crate::proofs::Widths::part_width, crate::proofs::Widths::hundredths_width))]
+fn timed(point: u16, t: i64, s: i64) -> ArrayString<ANSWER_BYTES>
+    ensures text { result.bytes ≡ spaced (codes "W" ∷ (decimal point ∷ (signed_decimal t ∷ (signed_decimal s
+        ∷ (signed_decimal (hundredths_of t) ∷ []))))) }
+    ensures short { ShortPart t → ShortPart s → array_string_len result ≤ 57 }
+{
+    let mut text = lettered('W');
+    add_number(&mut text, point);
+    add_number(&mut text, t);
+    add_number(&mut text, s);
+    add_number(&mut text, hundredths(t));
+    text
+}
+
+// A fault.
+#[tactic(auto, using(crate::proofs::Widths::letter_byte))]
+fn refused(fault: Fault) -> ArrayString<ANSWER_BYTES>
+    ensures text { result.bytes ≡ spaced (codes "E" ∷ (decimal fault.number ∷ ((letter_of fault.layer ∷ []) ∷ (decimal fault.place ∷ [])))) }
+    ensures short { array_string_len result ≤ 57 }
+{
+    let mut text = lettered('E');
+    add_number(&mut text, fault.number);
+    add_letter(&mut text, char::from(fault.layer));
+    add_number(&mut text, fault.place);
+    text
+}
+
+// The letter of the answer, and its numbers.
+fn text_of(answer: Answer) -> ArrayString<ANSWER_BYTES>
+    ensures text { result.bytes ≡ answer_text answer }
+    ensures short { ShortTime answer → array_string_len result ≤ 57 }
 {
     match answer {
-        Answer::Settled { count } => add_count(line, 'S', count),
-        Answer::Moved { count } => add_count(line, 'A', count),
-        Answer::Covered => add_word(line, "C"),
-        Answer::Conflict => add_word(line, "X"),
-        Answer::Time { point, t, s } => add_time(line, point, t, s),
-        Answer::Refused(fault) => add_fault(line, fault),
+        Answer::Settled { count } => counted('S', count),
+        Answer::Moved { count } => counted('A', count),
+        Answer::Covered => lettered('C'),
+        Answer::Conflict => lettered('X'),
+        Answer::Time { point, t, s } => timed(point, t, s),
+        Answer::Refused(fault) => refused(fault),
+    }
+}
+
+impl fmt::Display for Answer {
+    ghost output = { λ a. Some (answer_text a) };
+
+    fn fmt<W: fmt::Write>(&self, f: &mut fmt::Formatter<W>) -> fmt::Result {
+        f.write_str(text_of(*self).as_str())
     }
 }
 
@@ -118,11 +128,12 @@ pub(crate) fn answer_line(number: usize, answer: Answer) -> ArrayString<LINE_BYT
     requires number { number ≤ 32768 }
     requires short { ShortTime answer }
     ensures text { result.bytes ≡ line_text number answer }
-    ensures fits { length (line_text number answer) ≤ 64 }
+    ensures fits { array_string_len result ≤ 64 }
 {
     let mut line = ArrayString::new();
     line.push_str(Buffer::new().format(number));
-    add_answer(&mut line, answer);
+    line.push_str(" ");
+    line.push_str(text_of(answer).as_str());
     line.push_str("\n");
     line
 }

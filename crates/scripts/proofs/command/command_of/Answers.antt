@@ -4,8 +4,8 @@ use Rattle.scripts.proofs.Lines.{some_part}
 use Rattle.scripts.proofs.Numbers.{one_byte}
 use Rattle.scripts.proofs.command.command_of.Goals as goal
 
-pub returns-in-Some-len1 : goal.returns-in-Some-len1
-returns-in-Some-len1 c =
+pub returns : goal.returns
+returns c =
     subst (λ fs. FieldsSay fs c.command_in.result)
     (one_byte _ c.from.result _ _ _ (search rules) c.from.ensures c.in-Some-len1.ensures.steps c.new-fields.ensures) c.command_in.ensures
 
