@@ -3,6 +3,7 @@ use Rattle.std.proofs.Common.{◌≡◌, ℕ, ◌+◌, ◌-◌, ◌<◌, true, f
 use Rattle.std.specs.Result.{IsErrAnd}
 use Rattle.bounds.specs.declared.row.Row.{Row}
 use Rattle.books.specs.Layers.{table_of}
+use Rattle.books.specs.Meaning.{Meaning}
 use Rattle.delays.specs.Kind.{Kind, Exact}
 use Rattle.plans.specs.declared.fault.PlanFault.{PlanFault}
 use Rattle.plans.specs.Answers.{Call, settle, post, read, mark, keep, back, Answer, settled, covered, moved, time, slip, done, refused}
@@ -130,6 +131,10 @@ module _ {k : Kind} where
       go : (((f : PlanFault) × (◌≡◌ {A = Answer k} (refused e) (refused f)) × (t ≡ s)) ⊎ Settling s (refused e) t) → ⊥
       go (inl q) = let same : t.settled ≡ s.settled = ap (λ (s : State). s.settled) q.2 in cc
       go (inr q) = let bad : ◌≡◌ {A = Answer k} (refused e) (settled q.0) = q.1.0 in cc
+
+-- the plan that a script opens
+pub opened_empty : (s : State) (m : Meaning) (given points : ℕ) → s ≡ opened m given 0 → m ≡ table_of [] → given ≡ points → s ≡ opened (table_of []) points 0
+opened_empty s m given points is empty same = cc
 
 module _ {k : Kind} {P : Type 0} (state : P → State) (n : ℤ) where
   -- a plan that is not settled is refused

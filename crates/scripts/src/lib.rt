@@ -3,7 +3,6 @@
 
 pub mod answer;
 mod asking;
-pub mod call;
 pub mod command;
 pub mod fault;
 pub mod listing;

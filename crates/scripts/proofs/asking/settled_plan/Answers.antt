@@ -6,7 +6,7 @@ use Rattle.plans.specs.Steps.{Step}
 use Rattle.plans.specs.Plans.{state_of, settle_answer}
 use Rattle.scripts.specs.Sessions.{points_of, list_length}
 use Rattle.scripts.specs.Ready.{Settles}
-use Rattle.scripts.proofs.Remaining.{settle_ready, settles_not}
+use Rattle.scripts.proofs.Remaining.{opened_empty, settle_ready, settles_not}
 use Rattle.scripts.proofs.asking.settled_plan.Goals as goal
 
 pub returns-in_err-count : goal.returns-in_err-count
@@ -16,7 +16,7 @@ returns-in_err-count g c =
     let t = state_of c.settle.new.self in
     let read : to_z w64 (of_z w64 c.args.points) ≡ c.args.points = search (rules, to_z-of_z) in
     let first : state_of c.open-plan.result ≡ opened (table_of []) (points_of c.args.points) 0 =
-        c.open-plan.ensures.opened ∙ ap (λ m. opened m c.point_count.result 0) c.new.ensures ∙ ap (λ (n : ℕ). opened (table_of []) n 0) (c.point_count.ensures ∙ ap points_of read) in
+        opened_empty _ _ _ _ c.open-plan.ensures.opened c.new.ensures (c.point_count.ensures ∙ ap points_of read) in
     let step : Step k (opened (table_of []) (points_of c.args.points) 0) (settle list_length) (refused e) t =
         subst (λ (s : State). Step k s (settle list_length) (refused e) t) first c.in_err-count.ensures.step in
     settles_not state_of c.args.points c.from_residual.result e t c.from_residual.ensures.1 step
@@ -27,7 +27,7 @@ returns g c =
     let t = state_of c.settle.new.self in
     let read : to_z w64 (of_z w64 c.args.points) ≡ c.args.points = search (rules, to_z-of_z) in
     let first : state_of c.open-plan.result ≡ opened (table_of []) (points_of c.args.points) 0 =
-        c.open-plan.ensures.opened ∙ ap (λ m. opened m c.point_count.result 0) c.new.ensures ∙ ap (λ (n : ℕ). opened (table_of []) n 0) (c.point_count.ensures ∙ ap points_of read) in
+        opened_empty _ _ _ _ c.open-plan.ensures.opened c.new.ensures (c.point_count.ensures ∙ ap points_of read) in
     let step : Step k (opened (table_of []) (points_of c.args.points) 0) (settle list_length) (settled c.in_ok-count.count) t =
         subst (λ (s : State). Step k s (settle list_length) (settled c.in_ok-count.count) t) first c.in_ok-count.ensures.step in
     (step, settle_ready (opened (table_of []) (points_of c.args.points) 0) list_length c.in_ok-count.count t step refl)

@@ -1,4 +1,4 @@
-use Rattle.std.proofs.Common.{◌≡◌, ◌+◌, ◌++◌, length, take, drop, sym, ap, ◌∙◌, subst, arith}
+use Rattle.std.proofs.Common.{◌≡◌, ◌+◌, ◌≤◌, ◌++◌, length, take, drop, sym, ap, ◌∙◌, subst, arith}
 use Rattle.scripts.specs.Texts.{line_text}
 use Rattle.scripts.proofs.Progress.{goes_on, ends}
 use Rattle.scripts.proofs.listing.write_lines.Goals as goal
@@ -11,7 +11,7 @@ loop-line-preserved c =
     let bytes = c.as_bytes.ensures.value ∙ c.as_str.ensures.value ∙ text in
     let put = subst (λ xs. c.put.new.output ≡ take written old ++ (xs ++ drop (written + length xs) old)) bytes c.put.ensures in
     goes_on c.loop-line.invariant c.in-Some.ensures.lines c.in-Some.ensures.shorter c.answer.ensures.answered c.answer.ensures.between put
-    c.answer_line-text.ensures.fits (ap (λ n. written + n) (c.len-written.ensures.value ∙ ap length text))
+    (subst (λ xs. length xs ≤ 64) text c.answer_line-text.ensures.fits) (ap (λ n. written + n) (c.len-written.ensures.value ∙ ap length text))
 
 pub returns-clause-written : goal.returns-clause-written
 returns-clause-written c = ends c.loop-line.invariant c.in_default.ensures.lines
