@@ -2,3 +2,8 @@ pub mod Faults
 pub mod Commands
 pub mod Texts
 pub mod Sessions
+pub mod Ready
+pub mod Plans
+pub mod Room
+pub mod Lines
+pub mod Listings

@@ -2,9 +2,15 @@
 #![tactic(auto)]
 
 pub mod answer;
+mod asking;
 pub mod command;
 pub mod fault;
+pub mod listing;
+mod script;
+mod session;
+mod text;
 
 pub use answer::Answer;
-pub use command::Command;
+pub use command::{Command, command_of};
 pub use fault::ScriptFault;
+pub use listing::list;

@@ -1,0 +1,7 @@
+mod Remaining
+pub mod Numbers
+pub mod Widths
+mod Progress
+pub mod Lines
+mod Readings
+mod Once

@@ -1,0 +1,32 @@
+use Rattle.std.proofs.Common.{◌≡◌, ℕ, sym, subst, ap}
+use Rattle.bounds.specs.Making.{row_of}
+use Rattle.plans.specs.Answers.{read}
+use Rattle.plans.specs.Plans.{state_of, post_answer, read_answer}
+use Rattle.plans.specs.Steps.{Step}
+use Rattle.scripts.specs.declared.command.Command.{Command}
+use Rattle.scripts.specs.Sessions.{Obeys}
+use Rattle.scripts.specs.Ready.{Ready}
+use Rattle.scripts.proofs.Remaining.{post_ready}
+use Rattle.scripts.proofs.asking.obey.Goals as goal
+
+pub returns-in-Post-clause-obeys : goal.returns-in-Post-clause-obeys
+returns-in-Post-clause-obeys g c =
+    subst (λ (x : Command). Obeys g.D.Delay.kind (state_of c.args.plan.now) x c.posted_answer.result (state_of c.post.new.self)) (sym c.in-Post.is)
+    (post_answer c.post.result, c.post.ensures.step, c.posted_answer.ensures.says g.D.Delay.kind)
+
+pub returns-in-Post-clause-ready : goal.returns-in-Post-clause-ready
+returns-in-Post-clause-ready g c =
+    post_ready (state_of c.args.plan.now) _ _ (post_answer c.post.result) (state_of c.post.new.self) c.post.ensures.step c.requires.ready
+
+pub returns-in-Try-clause-obeys : goal.returns-in-Try-clause-obeys
+returns-in-Try-clause-obeys g c =
+    let t = c.try_bound.ensures.tried in
+    subst (λ (x : Command). Obeys g.D.Delay.kind (state_of c.args.plan.now) x c.posted_answer-in-Try.result (state_of c.try_bound.new.plan)) (sym c.in-Try.is)
+    (post_answer c.try_bound.result, t.0, t.1, t.2, t.3, t.4, t.5, t.6, c.posted_answer-in-Try.ensures.says g.D.Delay.kind)
+
+pub returns-in-Read-clause-obeys : goal.returns-in-Read-clause-obeys
+returns-in-Read-clause-obeys g c =
+    let s = state_of c.args.plan.now in
+    subst (λ (x : Command). Obeys g.D.Delay.kind s x c.time_answer.result s) (sym c.in-Read.is)
+    (read_answer g.D.Delay.means c.read.result,
+    subst (λ (n : ℕ). Step g.D.Delay.kind s (read n) (read_answer g.D.Delay.means c.read.result) s) c.from.ensures c.read.ensures, c.time_answer.ensures.says)

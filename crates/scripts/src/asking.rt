@@ -1,0 +1,111 @@
+// What a plan answers to the lines about it.
+ghost use Rattle.std.specs.Prelude.{◌≡◌, ℕ};
+ghost use Rattle.delays.specs.Kind.{Kind};
+ghost use Rattle.plans.specs.Plans.{state_of, settle_answer, post_answer, read_answer};
+ghost use Rattle.scripts.specs.declared.command.Command.TheVariants.{Post, Try, Read};
+ghost use Rattle.scripts.specs.Sessions.{of_fault, Answers, Obeys, points_of};
+ghost use Rattle.bounds.specs.Making.{row_of};
+ghost use Rattle.scripts.specs.Room.{ShortTime};
+ghost use Rattle.scripts.specs.Ready.{Ready, ShortParts, Tried, Settles};
+
+use crate::answer::Answer;
+use crate::command::Command;
+use crate::fault::ScriptFault;
+use books::{Book, Table};
+use bounds::Bound;
+use delays::Delay;
+use faults::Fault;
+use plans::{Plan, PlanFault, Posted};
+
+// The length of the list of each settle and post: it has room for each chain.
+pub(crate) const LIST_LENGTH: usize = 128;
+
+// A conflict has a letter of its own; another fault is told by its number, layer and place.
+pub(crate) fn fault_answer(fault: PlanFault) -> Answer
+    ensures says { result ≡ of_fault fault }
+    ensures short { ShortTime result }
+{
+    match fault {
+        PlanFault::Conflict { length: _ } => Answer::Conflict,
+        other => Answer::Refused(Fault::from(ScriptFault::from(other))),
+    }
+}
+
+pub(crate) fn settled_answer(outcome: Result<usize, PlanFault>) -> Answer
+    ensures says { (k : Kind) → Answers k 0 (settle_answer outcome) result }
+    ensures short { ShortTime result }
+{
+    match outcome {
+        Ok(count) => Answer::Settled { count },
+        Err(fault) => fault_answer(fault),
+    }
+}
+
+fn posted_answer(outcome: Result<Posted, PlanFault>) -> Answer
+    ensures says { (k : Kind) → Answers k 0 (post_answer outcome) result }
+    ensures short { ShortTime result }
+{
+    match outcome {
+        Ok(Posted::Covered) => Answer::Covered,
+        Ok(Posted::Moved { count }) => Answer::Moved { count },
+        Err(fault) => fault_answer(fault),
+    }
+}
+
+fn time_answer<D: Delay>(point: u16, outcome: Result<D, PlanFault>) -> Answer
+    requires parts { ShortParts D.kind }
+    ensures says { Answers D.kind point (read_answer D.means outcome) result }
+    ensures short { ShortTime result }
+{
+    match outcome {
+        Ok(time) => {
+            let (t, s) = time.parts();
+            Answer::Time { point, t, s }
+        }
+        Err(fault) => fault_answer(fault),
+    }
+}
+
+// Posts the bound between a mark and a back.
+fn try_bound<D: Delay, B: Book>(plan: &mut Plan<D, B>, bound: Bound) -> Result<Posted, PlanFault>
+    requires ready { Ready (state_of plan.now) }
+    ensures tried { Tried D.kind (state_of plan.old) (row_of bound) result (state_of plan.new) }
+    ensures ready { Ready (state_of plan.new) }
+{
+    let slip = plan.mark()?;
+    let outcome = plan.post(bound, &mut [0; LIST_LENGTH]);
+    plan.back(slip)?;
+    outcome
+}
+
+// The answer to a line about a settled plan.
+pub(crate) fn obey<D: Delay, B: Book>(plan: &mut Plan<D, B>, command: Command) -> Answer
+    requires parts { ShortParts D.kind }
+    requires ready { Ready (state_of plan.now) }
+    ensures obeys { Obeys D.kind (state_of plan.old) command result (state_of plan.new) }
+    ensures ready { Ready (state_of plan.new) }
+    ensures short { ShortTime result }
+{
+    match command {
+        Command::Ticks { points: _ } | Command::Ranked { points: _ } => fault_answer(PlanFault::SettledAlready),
+        Command::Post { bound } => posted_answer(plan.post(bound, &mut [0; LIST_LENGTH])),
+        Command::Try { bound } => posted_answer(try_bound(plan, bound)),
+        Command::Read { point } => time_answer(point, plan.read(usize::from(point))),
+    }
+}
+
+// There can't be fewer than no points, and a plan of none is refused.
+fn point_count(points: i64) -> usize
+    ensures { result ≡ points_of points }
+{
+    usize::try_from(points).unwrap_or(0)
+}
+
+// A plan over an empty table, settled, and how many of its times are not zero.
+pub(crate) fn settled_plan<D: Delay>(points: i64) -> Result<(Plan<D, Table>, usize), PlanFault>
+    ensures { Settles D.kind state_of points result }
+{
+    let mut plan = Plan::open(Table::new(), point_count(points), 0);
+    let count = plan.settle(&mut [0; LIST_LENGTH])?;
+    Ok((plan, count))
+}

@@ -1,0 +1,55 @@
+// The listing of a script: the answer to each of its lines.
+ghost use Rattle.std.specs.Prelude.{◌≡◌, ◌+◌, ◌*◌, ◌≤◌, ◌++◌, length, take, drop, IfOk};
+ghost use Rattle.scripts.specs.Lines.{script_lines};
+ghost use Rattle.scripts.specs.Listings.{Written, Listed, OneListing};
+
+use crate::fault::ScriptFault;
+use crate::script::{line_count, next_line};
+use crate::session::Session;
+use crate::text::{LINE_BYTES, answer_line};
+
+// The most bytes of a script.
+const SCRIPT_BYTES: usize = 32_768;
+
+// Writes the bytes at a place of the output.
+fn put(output: &mut [u8], place: usize, bytes: &[u8])
+    requires { place + length bytes.now ≤ length output.old }
+    ensures { output.new ≡ take place output.old ++ (bytes.now ++ drop (place + length bytes.now) output.old) }
+{
+    output[place..place + bytes.len()].copy_from_slice(bytes);
+}
+
+// Writes the listing, for which there is room.
+fn write_lines(script: &[u8], output: &mut [u8]) -> usize
+    requires short { length script.now ≤ 32768 }
+    requires room { 64 * length (script_lines script.now) ≤ length output.old }
+    ensures written { Written script.now output.old output.new result }
+    ensures fits { result ≤ length output.old }
+{
+    let mut session = Session::Unopened;
+    let mut left = script;
+    let mut number = 1;
+    let mut written = 0;
+    while let Some((line, rest)) = next_line(left) {
+        let text = answer_line(number, session.answer(line));
+        put(output, written, text.as_str().as_bytes());
+        written += text.len();
+        number += 1;
+        left = rest;
+    }
+    written
+}
+
+// Writes the listing of the script at the start of the output, and answers its length; or refuses, and writes nothing, where the script has
+// more than 32,768 bytes or the output fewer than 64 bytes a line.
+#[tactic(auto, using(crate::proofs::Once::one_listing))]
+pub fn list(script: &[u8], output: &mut [u8]) -> Result<usize, ScriptFault>
+    ensures listed { Listed script.now output.old output.new result }
+    ensures fits { IfOk result (λ n. n ≤ length output.old) }
+    ensures one { OneListing script.now }
+{
+    if script.len() > SCRIPT_BYTES || output.len() / LINE_BYTES < line_count(script) {
+        return Err(ScriptFault::Room);
+    }
+    Ok(write_lines(script, output))
+}
