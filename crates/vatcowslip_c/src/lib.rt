@@ -1,9 +1,13 @@
-// The call from C.
+// The call from C: a static library with nothing else in it.
 #![tactic(auto)]
 
-// The listing's length, or -14 where it is refused.
+ghost use Rattle.scripts.specs.Listings.{ListedInC};
+
+// Writes the listing of the script at the start of the output, and answers its length; or -14 where there is no room, and then writes nothing.
 #[unsafe(no_mangle)]
-pub extern "C" fn vatcowslip_list(script: &[u8], output: &mut [u8]) -> i64 {
+pub extern "C" fn vatcowslip_list(script: &[u8], output: &mut [u8]) -> i64
+    ensures { ListedInC script.now output.old output.new result }
+{
     match scripts::list(script, output) {
         Ok(length) => length as i64,
         Err(_) => -14,
