@@ -110,7 +110,8 @@ answered_once (in_ticks s) c a b t u h g =
 answered_once (in_ranked s) c a b t u h g =
     let both = obeys_once ranked_lawful s c a b h.0 g.0 h.1 g.1 in (both.0, h.2 ∙ ap in_ranked both.1 ∙ sym g.2)
 
-reading_once : (s : Session) (r : Result Command ScriptFault) (a b : Answer) (t u : Session) → ReadingAnswered s r a t → ReadingAnswered s r b u → (a ≡ b) × (t ≡ u)
+reading_once : (s : Session) (r : Result Command ScriptFault) (a b : Answer) (t u : Session) → ReadingAnswered s r a t → ReadingAnswered s r b u
+    → (a ≡ b) × (t ≡ u)
 reading_once s (Ok c) a b t u h g = answered_once s c a b t u h g
 reading_once s (Err e) a b t u h g = (h.0 ∙ sym g.0, h.1 ∙ sym g.1)
 

@@ -83,7 +83,8 @@ module _ {k : Kind} where
       let marks_before : u.marks ≡ length s.book.added ∷ [] = ap (λ (s : State). s.marks) marked ∙ ap (λ m. m ++ length s.book.added ∷ []) r.unmarked in
       let settled_after : v.settled ≡ true = kept.settled ∙ settled_before in
       let depth_after : length v.marks ≡ 1 = ap length (kept.marks ∙ marks_before) in
-      let present : Present v number d = record { number_is = its ∙ sym (kept.number ∙ number_before); depth_is = one ∙ sym depth_after; is_open = omega (arith, one) } in
+      let present : Present v number d =
+      record { number_is = its ∙ sym (kept.number ∙ number_before); depth_is = one ∙ sym depth_after; is_open = omega (arith, one) } in
       let last = back_closes v number d y t o settled_after present in
       let closed : t ≡ cutting (noted v d) (closing d v) = last.1 in (
         last.0,
@@ -155,7 +156,8 @@ module _ {k : Kind} {m n : ℤ} (same : m ≡ n) (session : State → Session) w
   pub opens_settled : (t : State) (count : ℕ) → Step k (opened (table_of []) (points_of m) 0) (settle list_length) (settled count) t × Ready t
       → Opens k session n (Settled count) (session t)
   opens_settled t count h =
-      (settled count, t, subst (λ (n : ℤ). Step k (opened (table_of []) (points_of n) 0) (settle list_length) (settled count) t) same h.0, refl, inl (h.1.settled, refl))
+      let step = subst (λ (n : ℤ). Step k (opened (table_of []) (points_of n) 0) (settle list_length) (settled count) t) same h.0 in
+      (settled count, t, step, refl, inl (h.1.settled, refl))
 
   -- and a refused one opens none
   pub opens_none : (e : PlanFault) (a : LineAnswer) → a ≡ of_fault e → StaysUnsettled k m e → Opens k session n a unopened

@@ -1,10 +1,10 @@
 // What a plan answers to the lines about it.
 ghost use Rattle.std.specs.Prelude.{◌≡◌, ℕ};
+ghost use Rattle.bounds.specs.Making.{row_of};
 ghost use Rattle.delays.specs.Kind.{Kind};
 ghost use Rattle.plans.specs.Plans.{state_of, post_answer, read_answer};
 ghost use Rattle.scripts.specs.declared.command.Command.TheVariants.{Post, Try, Read};
 ghost use Rattle.scripts.specs.Sessions.{of_fault, Answers, Obeys, points_of};
-ghost use Rattle.bounds.specs.Making.{row_of};
 ghost use Rattle.scripts.specs.Room.{ShortTime};
 ghost use Rattle.scripts.specs.Ready.{Ready, ShortParts, Tried, Settles};
 
@@ -18,7 +18,7 @@ use faults::Fault;
 use plans::{Plan, PlanFault, Posted};
 
 // The length of the list of each settle and post: it has room for each chain.
-pub(crate) const LIST_LENGTH: usize = 128;
+const LIST_LENGTH: usize = 128;
 
 // A conflict has a letter of its own; another fault is told by its number, layer and place.
 pub(crate) fn fault_answer(fault: PlanFault) -> Answer

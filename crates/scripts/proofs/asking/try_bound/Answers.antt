@@ -5,7 +5,8 @@ use Rattle.scripts.proofs.asking.try_bound.Goals as goal
 
 pub returns-in_err-slip-clause-ready : goal.returns-in_err-slip-clause-ready
 returns-in_err-slip-clause-ready g c =
-    let no = (mark_opens (state_of c.args.plan.now) (refused c.in_err-slip.field-0.0) (state_of c.mark.new.self) c.in_err-slip.ensures.step c.requires.ready).0 in
+    let first = state_of c.args.plan.now in
+    let no = (mark_opens first (refused c.in_err-slip.field-0.0) (state_of c.mark.new.self) c.in_err-slip.ensures.step c.requires.ready).0 in
     absurd (cc)
 
 pub returns-in_err-back-clause-tried : goal.returns-in_err-back-clause-tried
