@@ -1,9 +1,7 @@
 -- A script has one listing. Assumes nothing.
 use Rattle.std.proofs.Common.{◌≡◌, ℕ, ◌+◌, true, ◌⊎◌, List, [], ◌∷◌, ◌++◌, ℤ, Ok, Err, Result, sym, refl, ap, ◌∙◌, subst, inl, inr}
 use Rattle.delays.specs.Kind.{Kind, Lawful}
-use Rattle.delays.specs.Ticks.{ticks_kind}
 use Rattle.delays.specs.TicksLaws.{ticks_lawful}
-use Rattle.delays.specs.Ranked.{ranked_kind}
 use Rattle.delays.specs.RankedLaws.{ranked_lawful}
 use Rattle.bounds.specs.Making.{row_of}
 use Rattle.books.specs.Layers.{table_of}
@@ -17,7 +15,6 @@ use Rattle.scripts.specs.declared.command.Command.{Command}
 use Rattle.scripts.specs.declared.command.Command.TheVariants.{Ticks, Ranked, Post, Try, Read}
 use Rattle.scripts.specs.declared.fault.ScriptFault.{ScriptFault}
 use Rattle.scripts.specs.declared.answer.Answer.{Answer}
-use Rattle.scripts.specs.Faults.{fault_of}
 use Rattle.scripts.specs.Lines.{script_lines}
 use Rattle.scripts.specs.Listings.{OneListing}
 use Rattle.scripts.specs.Sessions.{Session, unopened, in_ticks, in_ranked, of_fault, Answers, list_length, points_of, Obeys, Opens, Answered, ReadingAnswered, LineAnswered, Listing}
@@ -84,8 +81,8 @@ module _ {k : Kind} (laws : Lawful k) where
       let depth : h.4 ≡ g.4 = cc in
       let posts = call_once g.1 post 0 h.0 g.0 a b h.2 g.2 (subst (λ (w : State). Step k w post h.0 h.2) marks.1 h.6) g.6 h.8 g.8 in
       let back : Step k g.2 (plans.back g.3 g.4) plans.done t =
-          subst (λ (w : State). Step k w (plans.back g.3 g.4) plans.done t) posts.1
-          (subst (λ d. Step k h.2 (plans.back g.3 d) plans.done t) depth (subst (λ n. Step k h.2 (plans.back n h.4) plans.done t) its h.7)) in
+      subst (λ (w : State). Step k w (plans.back g.3 g.4) plans.done t) posts.1
+      (subst (λ d. Step k h.2 (plans.back g.3 d) plans.done t) depth (subst (λ n. Step k h.2 (plans.back n h.4) plans.done t) its h.7)) in
       (posts.0, (steps_agree laws g.2 (plans.back g.3 g.4) plans.done plans.done t u back g.7).1)
 
   opens_once : (session : State → Session) (n : ℤ) (a b : Answer) (after then : Session) → Opens k session n a after → Opens k session n b then
@@ -113,7 +110,8 @@ answered_once (in_ticks s) c a b t u h g =
 answered_once (in_ranked s) c a b t u h g =
     let both = obeys_once ranked_lawful s c a b h.0 g.0 h.1 g.1 in (both.0, h.2 ∙ ap in_ranked both.1 ∙ sym g.2)
 
-reading_once : (s : Session) (r : Result Command ScriptFault) (a b : Answer) (t u : Session) → ReadingAnswered s r a t → ReadingAnswered s r b u → (a ≡ b) × (t ≡ u)
+reading_once : (s : Session) (r : Result Command ScriptFault) (a b : Answer) (t u : Session) → ReadingAnswered s r a t → ReadingAnswered s r b u
+    → (a ≡ b) × (t ≡ u)
 reading_once s (Ok c) a b t u h g = answered_once s c a b t u h g
 reading_once s (Err e) a b t u h g = (h.0 ∙ sym g.0, h.1 ∙ sym g.1)
 

@@ -36,10 +36,10 @@ module _ {script before : List ℕ} where
       let front = p.front in
       let size : length (front ++ text) ≡ length front + length text = length-append front text in
       let before_it : take written after ≡ front =
-          ap (λ n. take n after) p.count ∙ ap (take (length front)) p.output ∙ take-append_seam front (drop (length front) before) in
+      ap (λ n. take n after) p.count ∙ ap (take (length front)) p.output ∙ take-append_seam front (drop (length front) before) in
       let after_it : drop (written + length text) after ≡ drop (length (front ++ text)) before =
-          ap (λ n. drop n after) (let e : written ≡ length front = p.count in omega (arith, e, size)) ∙ ap (drop (length (front ++ text))) p.output
-          ∙ drop-append-drop (length front) before front (length (front ++ text)) (omega (arith, size)) refl in
+      ap (λ n. drop n after) (let e : written ≡ length front = p.count in omega (arith, e, size)) ∙ ap (drop (length (front ++ text))) p.output
+      ∙ drop-append-drop (length front) before front (length (front ++ text)) (omega (arith, size)) refl in
       record {
         front = front ++ text;
         output = put ∙ ap (λ xs. xs ++ (text ++ drop (written + length text) after)) before_it ∙ ap (λ xs. front ++ (text ++ xs)) after_it
@@ -55,6 +55,9 @@ module _ {script before : List ℕ} where
   -- all is written
   pub ends : {after left : List ℕ} {s : Session} {number written : ℕ} → Progress script before after s number written left → script_lines left ≡ []
       → Written script before after written
-  ends {after} {left} {s} {number} {written} p none =
-      (p.front, subst (ListingOf script) (append-nil p.front) (p.goes [] (subst (λ lines. Listing s number lines []) (sym none) refl)), p.count,
-      p.output ∙ ap (λ n. p.front ++ drop n before) (sym p.count))
+  ends {after} {left} {s} {number} {written} p none = (
+    p.front,
+    subst (ListingOf script) (append-nil p.front) (p.goes [] (subst (λ lines. Listing s number lines []) (sym none) refl)),
+    p.count,
+    p.output ∙ ap (λ n. p.front ++ drop n before) (sym p.count),
+  )

@@ -1,22 +1,19 @@
 -- A line says one command, or one fault. Assumes nothing.
-use Rattle.std.proofs.Common.{◌≡◌, ℕ, ◌≤◌, ◌⊎◌, List, [], ◌∷◌, ℤ, pos, negsuc, ◌≤ℤ◌, Ok, Err, Result, sym, refl, ap, ◌∙◌, subst, inl, inr, arith}
+use Rattle.std.proofs.Common.{◌≡◌, ℕ, ◌≤◌, ◌⊎◌, List, [], ◌∷◌, ℤ, pos, negsuc, ◌≤ℤ◌, Ok, Err, Result, sym, ap, ◌∙◌, subst, inl, inr, arith}
 use Rattle.std.proofs.Math.Bridge.{le_prop}
 use Rattle.std.proofs.Math.Dec.{T_prop}
 use Rattle.bounds.specs.declared.bound.Bound.{Bound}
-use Rattle.bounds.specs.declared.fault.BoundFault.{BoundFault}
 use Rattle.bounds.specs.declared.row.Row.{Row}
-use Rattle.bounds.specs.Making.{Made, row_of}
-use Rattle.bounds.specs.Range.{Point, Part, Sound}
-use Rattle.bounds.proofs.Makes.{SameBound, made_once}
-use Rattle.lines.specs.Decimal.{number}
+use Rattle.bounds.specs.Making.{row_of}
+use Rattle.bounds.specs.Range.{Part, Sound}
+use Rattle.bounds.proofs.Makes.{made_once}
 use Rattle.lines.specs.Fields.{fields}
-use Rattle.lines.specs.Reading.{readings}
 use Rattle.lines.specs.declared.fault.LineFault.TheVariants.{Unreadable}
 use Rattle.scripts.specs.declared.command.Command.{Command}
 use Rattle.scripts.specs.declared.command.Command.TheVariants.{Ticks, Ranked, Post, Try, Read}
 use Rattle.scripts.specs.declared.fault.ScriptFault.{ScriptFault}
 use Rattle.scripts.specs.declared.fault.ScriptFault.TheVariants.{Line, Bound as BoundRefused}
-use Rattle.scripts.specs.Commands.{letter_T, letter_R, letter_P, letter_Q, letter_W, Is, BoundCommand, OpenCommand, ReadCommand, Numbers, FieldsSay, CommandOf}
+use Rattle.scripts.specs.Commands.{Is, BoundCommand, OpenCommand, ReadCommand, Numbers, FieldsSay, CommandOf}
 
 -- a bound is its row: that its numbers are in range is said in one way
 le_z_once : {a b : ℤ} (p q : a ≤ℤ b) → p ≡ q
@@ -53,7 +50,6 @@ abbrev Once : (Reading → Type 0) → Type 0
 Once P = (q r : Reading) → P q → P r → q ≡ r
 
 module _ (make : Bound → Command) where
-
   bound_command_once : (ns : List ℤ) → Once (BoundCommand make ns)
   bound_command_once [] q r h g = absurd h
   bound_command_once (left ∷ []) q r h g = absurd h

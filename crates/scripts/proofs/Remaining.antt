@@ -1,13 +1,13 @@
 -- What the calls on a plan leave of it. Assumes nothing.
-use Rattle.std.proofs.Common.{◌≡◌, ℕ, ◌+◌, ◌-◌, ◌<◌, true, false, ◌⊎◌, List, [], ◌∷◌, ◌++◌, length, take, sym, refl, ap, ◌∙◌, subst, inl, inr, arith, ℤ, Ok, Err, Result}
+use Rattle.std.proofs.Common.{◌≡◌, ℕ, ◌+◌, ◌-◌, true, false, ◌⊎◌, List, [], ◌∷◌, ◌++◌, length, take, sym, refl, ap, ◌∙◌, subst, inl, inr, arith, ℤ, Ok, Err, Result}
 use Rattle.std.specs.Result.{IsErrAnd}
 use Rattle.bounds.specs.declared.row.Row.{Row}
 use Rattle.books.specs.Layers.{table_of}
 use Rattle.books.specs.Meaning.{Meaning}
 use Rattle.delays.specs.Kind.{Kind, Exact}
 use Rattle.plans.specs.declared.fault.PlanFault.{PlanFault}
-use Rattle.plans.specs.Answers.{Call, settle, post, read, mark, keep, back, Answer, settled, covered, moved, time, slip, done, refused}
-use Rattle.plans.specs.States.{State, rows, depth, opened, settling, posting, marking, closing, cutting, noted}
+use Rattle.plans.specs.Answers.{settle, post, mark, back, Answer, settled, slip, done, refused}
+use Rattle.plans.specs.States.{State, rows, opened, settling, posting, marking, closing, cutting, noted}
 use Rattle.plans.specs.Steps.{Ending, Becomes, Check, EachBound, Conflicts, Present, Step}
 use Rattle.scripts.specs.declared.answer.Answer.{Answer as LineAnswer}
 use Rattle.scripts.specs.declared.answer.Answer.TheVariants.{Settled}
@@ -83,12 +83,16 @@ module _ {k : Kind} where
       let marks_before : u.marks ≡ length s.book.added ∷ [] = ap (λ (s : State). s.marks) marked ∙ ap (λ m. m ++ length s.book.added ∷ []) r.unmarked in
       let settled_after : v.settled ≡ true = kept.settled ∙ settled_before in
       let depth_after : length v.marks ≡ 1 = ap length (kept.marks ∙ marks_before) in
-      let present : Present v number d = record { number_is = its ∙ sym (kept.number ∙ number_before); depth_is = one ∙ sym depth_after; is_open = omega (arith, one) } in
+      let present : Present v number d =
+      record { number_is = its ∙ sym (kept.number ∙ number_before); depth_is = one ∙ sym depth_after; is_open = omega (arith, one) } in
       let last = back_closes v number d y t o settled_after present in
-      let closed : t ≡ cutting (noted v d) (closing d v) = last.1 in
-      (last.0, record {
-        settled = ap (λ (s : State). s.settled) closed ∙ settled_after;
-        unmarked = ap (λ (s : State). s.marks) closed ∙ ap (λ (d : ℕ). take (d - 1) v.marks) one })
+      let closed : t ≡ cutting (noted v d) (closing d v) = last.1 in (
+        last.0,
+        record {
+          settled = ap (λ (s : State). s.settled) closed ∙ settled_after;
+          unmarked = ap (λ (s : State). s.marks) closed ∙ ap (λ (d : ℕ). take (d - 1) v.marks) one;
+        },
+      )
 
   -- the call is refused and the plan stays, or it ends so
   abbrev Ends : State → Ending k → Ending k → Type 0
@@ -141,16 +145,19 @@ module _ {k : Kind} {P : Type 0} (state : P → State) (n : ℤ) where
   pub settles_not : (r : Result (P × ℕ) PlanFault) (e : PlanFault) (t : State) → IsErrAnd r (λ f. f ≡ e)
       → Step k (opened (table_of []) (points_of n) 0) (settle list_length) (refused e) t → Settles k state n r
   settles_not (Ok p) e t none step = absurd none
-  settles_not (Err f) e t same step =
-      (t, subst (λ f. Step k (opened (table_of []) (points_of n) 0) (settle list_length) (refused f) t) (sym same) step,
-      settle_stays (opened (table_of []) (points_of n) 0) list_length e t step refl)
+  settles_not (Err f) e t same step = (
+    t,
+    subst (λ f. Step k (opened (table_of []) (points_of n) 0) (settle list_length) (refused f) t) (sym same) step,
+    settle_stays (opened (table_of []) (points_of n) 0) list_length e t step refl,
+  )
 
 module _ {k : Kind} {m n : ℤ} (same : m ≡ n) (session : State → Session) where
   -- a plan that is settled opens a session
   pub opens_settled : (t : State) (count : ℕ) → Step k (opened (table_of []) (points_of m) 0) (settle list_length) (settled count) t × Ready t
       → Opens k session n (Settled count) (session t)
   opens_settled t count h =
-      (settled count, t, subst (λ (n : ℤ). Step k (opened (table_of []) (points_of n) 0) (settle list_length) (settled count) t) same h.0, refl, inl (h.1.settled, refl))
+      let step = subst (λ (n : ℤ). Step k (opened (table_of []) (points_of n) 0) (settle list_length) (settled count) t) same h.0 in
+      (settled count, t, step, refl, inl (h.1.settled, refl))
 
   -- and a refused one opens none
   pub opens_none : (e : PlanFault) (a : LineAnswer) → a ≡ of_fault e → StaysUnsettled k m e → Opens k session n a unopened

@@ -1,5 +1,5 @@
 -- What a line of a script says: a letter and its decimal numbers, one space before each. Assumes nothing.
-use Rattle.std.specs.Prelude.{◌≡◌, ◌≢◌, ℕ, ◌⊎◌, List, [], ◌∷◌, ℤ, pos, negsuc, Ok, Err, Result}
+use Rattle.std.specs.Prelude.{◌≡◌, ℕ, ◌⊎◌, List, [], ◌∷◌, ℤ, pos, Ok, Err, Result}
 use Rattle.bounds.specs.declared.bound.Bound.{Bound}
 use Rattle.bounds.specs.declared.fault.BoundFault.{BoundFault}
 use Rattle.bounds.specs.declared.fault.BoundFault.TheVariants.{LeftPoint}
@@ -67,7 +67,7 @@ FieldsSay (first ∷ rest) r =
     ⊎ ((Is first letter_Q × Numbers 4 (BoundCommand Try) rest r)
     ⊎ ((Is first letter_W × Numbers 1 ReadCommand rest r)
     ⊎ ((Is first letter_T → ⊥) × (Is first letter_R → ⊥) × (Is first letter_P → ⊥) × (Is first letter_Q → ⊥) × (Is first letter_W → ⊥)
-        × (r ≡ Err (Line (Unreadable 0))))))))
+    × (r ≡ Err (Line (Unreadable 0))))))))
 
 -- the command that the line says, or why it says none
 abbrev pub CommandOf : List ℕ → Result Command ScriptFault → Type 0

@@ -3,7 +3,7 @@ pub mod Commands
 pub mod Texts
 pub mod Sessions
 pub mod Ready
-pub mod Plans
+pub mod SessionOf
 pub mod Room
 pub mod Lines
 pub mod Listings

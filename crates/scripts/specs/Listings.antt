@@ -28,11 +28,11 @@ Listed script before after (Ok n) =
 Listed script before after (Err e) =
     (e ≡ Room) × ((script_bytes < length script) ⊎ (length before < line_bytes * length (script_lines script))) × (after ≡ before)
 
--- a script has one listing
-abbrev pub OneListing : List ℕ → Type 0
-OneListing script = (x y : List ℕ) → ListingOf script x → ListingOf script y → x ≡ y
-
--- the same, where the length is a number of 64 bits, and any refusal is -14
+-- the same for a call from C, which answers the length, or -14 for a refusal (`negsuc n` is -1 - n)
 abbrev pub ListedInC : List ℕ → List ℕ → List ℕ → ℤ → Type 0
 ListedInC script before after (pos n) = Listed script before after (Ok n)
 ListedInC script before after (negsuc n) = (n ≡ 13) × Listed script before after (Err Room)
+
+-- a script has one listing
+abbrev pub OneListing : List ℕ → Type 0
+OneListing script = (x y : List ℕ) → ListingOf script x → ListingOf script y → x ≡ y

@@ -1,5 +1,5 @@
 -- How a session stands between two lines, and what is tried and settled in it. Assumes nothing.
-use Rattle.std.specs.Prelude.{◌≡◌, ℕ, ◌≤◌, true, List, [], ℤ, unsigned_abs, Ok, Err, Result, ⊤}
+use Rattle.std.specs.Prelude.{◌≡◌, ℕ, true, [], ℤ, Ok, Err, Result, ⊤}
 use Rattle.delays.specs.Kind.{Kind, Exact, Within}
 use Rattle.bounds.specs.declared.row.Row.{Row}
 use Rattle.books.specs.Layers.{table_of}

@@ -1,6 +1,5 @@
 -- What a script's lines are answered, line by line, by the calls on its plan. Assumes nothing.
 use Rattle.std.specs.Prelude.{◌≡◌, ℕ, ◌+◌, ◌⊎◌, true, List, [], ◌∷◌, ◌++◌, ℤ, pos, negsuc, Ok, Err, Result}
-use Rattle.bounds.specs.declared.row.Row.{Row}
 use Rattle.bounds.specs.Making.{row_of}
 use Rattle.delays.specs.Kind.{Kind}
 use Rattle.delays.specs.Ticks.{ticks_kind}
@@ -12,7 +11,7 @@ use Rattle.plans.specs.Answers as plans
 use Rattle.plans.specs.States.{State, opened}
 use Rattle.plans.specs.Steps.{Step}
 use Rattle.scripts.specs.declared.fault.ScriptFault.{ScriptFault}
-use Rattle.scripts.specs.declared.fault.ScriptFault.TheVariants.{Room, Line, Plan}
+use Rattle.scripts.specs.declared.fault.ScriptFault.TheVariants.{Plan}
 use Rattle.scripts.specs.declared.command.Command.{Command}
 use Rattle.scripts.specs.declared.command.Command.TheVariants.{Ticks, Ranked, Post, Try, Read}
 use Rattle.scripts.specs.declared.answer.Answer.{Answer}

@@ -1,10 +1,10 @@
 // What a plan answers to the lines about it.
 ghost use Rattle.std.specs.Prelude.{◌≡◌, ℕ};
+ghost use Rattle.bounds.specs.Making.{row_of};
 ghost use Rattle.delays.specs.Kind.{Kind};
-ghost use Rattle.plans.specs.Plans.{state_of, settle_answer, post_answer, read_answer};
+ghost use Rattle.plans.specs.Plans.{state_of, post_answer, read_answer};
 ghost use Rattle.scripts.specs.declared.command.Command.TheVariants.{Post, Try, Read};
 ghost use Rattle.scripts.specs.Sessions.{of_fault, Answers, Obeys, points_of};
-ghost use Rattle.bounds.specs.Making.{row_of};
 ghost use Rattle.scripts.specs.Room.{ShortTime};
 ghost use Rattle.scripts.specs.Ready.{Ready, ShortParts, Tried, Settles};
 
@@ -18,7 +18,7 @@ use faults::Fault;
 use plans::{Plan, PlanFault, Posted};
 
 // The length of the list of each settle and post: it has room for each chain.
-pub(crate) const LIST_LENGTH: usize = 128;
+const LIST_LENGTH: usize = 128;
 
 // A conflict has a letter of its own; another fault is told by its number, layer and place.
 pub(crate) fn fault_answer(fault: PlanFault) -> Answer
@@ -28,16 +28,6 @@ pub(crate) fn fault_answer(fault: PlanFault) -> Answer
     match fault {
         PlanFault::Conflict { length: _ } => Answer::Conflict,
         other => Answer::Refused(Fault::from(ScriptFault::from(other))),
-    }
-}
-
-pub(crate) fn settled_answer(outcome: Result<usize, PlanFault>) -> Answer
-    ensures says { (k : Kind) → Answers k 0 (settle_answer outcome) result }
-    ensures short { ShortTime result }
-{
-    match outcome {
-        Ok(count) => Answer::Settled { count },
-        Err(fault) => fault_answer(fault),
     }
 }
 
@@ -87,7 +77,9 @@ pub(crate) fn obey<D: Delay, B: Book>(plan: &mut Plan<D, B>, command: Command) -
     ensures short { ShortTime result }
 {
     match command {
-        Command::Ticks { points: _ } | Command::Ranked { points: _ } => fault_answer(PlanFault::SettledAlready),
+        Command::Ticks { points: _ } | Command::Ranked { points: _ } => fault_answer(
+            PlanFault::SettledAlready,
+        ),
         Command::Post { bound } => posted_answer(plan.post(bound, &mut [0; LIST_LENGTH])),
         Command::Try { bound } => posted_answer(try_bound(plan, bound)),
         Command::Read { point } => time_answer(point, plan.read(usize::from(point))),

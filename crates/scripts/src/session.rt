@@ -3,10 +3,10 @@ ghost use Rattle.std.specs.Prelude.{◌≡◌};
 ghost use Rattle.scripts.specs.Sessions.{Answered, LineAnswered, unopened};
 ghost use Rattle.scripts.specs.Room.{ShortTime};
 ghost use Rattle.scripts.specs.Ready.{Between};
-ghost use Rattle.scripts.specs.Plans.{session_of};
+ghost use Rattle.scripts.specs.SessionOf.{session_of};
 
 use crate::answer::Answer;
-use crate::asking::{fault_answer, obey, settled_answer, settled_plan};
+use crate::asking::{fault_answer, obey, settled_plan};
 use crate::command::{Command, command_of};
 use crate::fault::ScriptFault;
 use books::Table;

@@ -1,11 +1,9 @@
-use Rattle.std.proofs.Common.{◌≡◌, ℕ, sym, subst, ap}
-use Rattle.bounds.specs.Making.{row_of}
+use Rattle.std.proofs.Common.{ℕ, sym, subst}
 use Rattle.plans.specs.Answers.{read}
 use Rattle.plans.specs.Plans.{state_of, post_answer, read_answer}
 use Rattle.plans.specs.Steps.{Step}
 use Rattle.scripts.specs.declared.command.Command.{Command}
 use Rattle.scripts.specs.Sessions.{Obeys}
-use Rattle.scripts.specs.Ready.{Ready}
 use Rattle.scripts.proofs.Remaining.{post_ready}
 use Rattle.scripts.proofs.asking.obey.Goals as goal
 
@@ -27,6 +25,8 @@ returns-in-Try-clause-obeys g c =
 pub returns-in-Read-clause-obeys : goal.returns-in-Read-clause-obeys
 returns-in-Read-clause-obeys g c =
     let s = state_of c.args.plan.now in
-    subst (λ (x : Command). Obeys g.D.Delay.kind s x c.time_answer.result s) (sym c.in-Read.is)
-    (read_answer g.D.Delay.means c.read.result,
-    subst (λ (n : ℕ). Step g.D.Delay.kind s (read n) (read_answer g.D.Delay.means c.read.result) s) c.from.ensures c.read.ensures, c.time_answer.ensures.says)
+    subst (λ (x : Command). Obeys g.D.Delay.kind s x c.time_answer.result s) (sym c.in-Read.is) (
+      read_answer g.D.Delay.means c.read.result,
+      subst (λ (n : ℕ). Step g.D.Delay.kind s (read n) (read_answer g.D.Delay.means c.read.result) s) c.from.ensures c.read.ensures,
+      c.time_answer.ensures.says,
+    )

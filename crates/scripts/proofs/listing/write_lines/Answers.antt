@@ -1,5 +1,4 @@
-use Rattle.std.proofs.Common.{◌≡◌, ◌+◌, ◌≤◌, ◌++◌, length, take, drop, sym, ap, ◌∙◌, subst, arith}
-use Rattle.scripts.specs.Texts.{line_text}
+use Rattle.std.proofs.Common.{◌≡◌, ◌+◌, ◌≤◌, ◌++◌, length, take, drop, ap, ◌∙◌, subst, arith}
 use Rattle.scripts.proofs.Progress.{goes_on, ends}
 use Rattle.scripts.proofs.listing.write_lines.Goals as goal
 

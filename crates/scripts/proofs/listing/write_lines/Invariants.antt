@@ -1,5 +1,5 @@
 use Rattle.std.proofs.Common.{length}
-use Rattle.scripts.specs.Plans.{session_of}
+use Rattle.scripts.specs.SessionOf.{session_of}
 use Rattle.scripts.proofs.Progress.{Progress}
 use Rattle.scripts.proofs.listing.write_lines.Given as goal
 

@@ -1,4 +1,4 @@
-use Rattle.std.proofs.Common.{◌≡◌, ℤ, w64, to_z, of_z, to_z-of_z, sym, subst, rules}
+use Rattle.std.proofs.Common.{◌≡◌, w64, to_z, of_z, to_z-of_z, sym, subst, rules}
 use Rattle.plans.specs.Plans.{state_of}
 use Rattle.scripts.specs.declared.answer.Answer.TheVariants.{Settled}
 use Rattle.scripts.specs.declared.command.Command.{Command}

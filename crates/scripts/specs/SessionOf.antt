@@ -1,4 +1,4 @@
--- What the plan of a session is. Assumes nothing.
+-- Which session a value of the code is. Assumes nothing.
 use Rattle.plans.specs.Plans.{state_of}
 use Rattle.scripts.specs.declared.session.Session.{Session}
 use Rattle.scripts.specs.declared.session.Session.TheVariants.{Unopened, Ticks, Ranked}
