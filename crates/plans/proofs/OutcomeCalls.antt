@@ -69,15 +69,43 @@ module _ (k : Kind) where
     pub accepts : (b : Row) (old x : ℕ → Exact k) → Postable k s.points b → (Covered k (rows s) b → ⊥) → Times k s.points (rows s) old
         → Times k s.points (rows s ++ b ∷ []) x → 0 < s.book.free → Step k s (post s.points b) (moved (moved_count k s.points old x)) (posting b s)
     accepts b old x p none before after room =
-        inr (λ off. both_ways s.settled off on, inr (λ h. omega (arith, p.left), inr (λ h. omega (arith, p.right), inr (readable p, inr (λ h. omega arith,
-        inr (none, inr (x, after, inr (λ e. omega arith, (old, before, (refl, refl))))))))))
+        inr (
+          λ off. both_ways s.settled off on,
+          inr (
+            λ h. omega (arith, p.left),
+            inr (
+              λ h. omega (arith, p.right),
+              inr (
+                readable p,
+                inr (
+                  λ h. omega arith,
+                  inr (none, inr (x, after, inr (λ e. omega arith, (old, before, (refl, refl))))),
+                ),
+              ),
+            ),
+          ),
+        )
 
     -- a post that is refused for a chain
     pub refuses : (b : Row) (row : Bounds k) → Postable k s.points b → (Covered k (rows s) b → ⊥) → ChainIn k (force k s.points (rows s ++ b ∷ [])) row
         → Step k s (post s.points b) (refused (Conflict (length row))) s
     refuses b row p none c =
-        inr (λ off. both_ways s.settled off on, inr (λ h. omega (arith, p.left), inr (λ h. omega (arith, p.right), inr (readable p, inr (λ h. omega arith,
-        inr (none, inl (row, c, (refl, refl))))))))
+        inr (
+          λ off. both_ways s.settled off on,
+          inr (
+            λ h. omega (arith, p.left),
+            inr (
+              λ h. omega (arith, p.right),
+              inr (
+                readable p,
+                inr (
+                  λ h. omega arith,
+                  inr (none, inl (row, c, (refl, refl))),
+                ),
+              ),
+            ),
+          ),
+        )
 
     pub reads : (p : ℕ) (x : ℕ → Exact k) → p < s.points → Times k s.points (rows s) x → Step k s (read p) (time (x p)) s
     reads p x l times = inr (λ off. both_ways s.settled off on, inr (λ h. omega arith, (x p, times.earliest p l, (refl, refl))))
