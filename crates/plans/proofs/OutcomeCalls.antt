@@ -28,9 +28,13 @@ pub record Postable (k : Kind) (n : ℕ) (b : Row) : Type 0 where
   pub t : k.t (k.value b.t b.s) ≡ b.t
   pub s : k.s (k.value b.t b.s) ≡ b.s
 
+-- the times meet each bound, as computed
+abbrev pub MetBy : (k : Kind) → (ℕ → Exact k) → Bounds k → Type 0
+MetBy k x edges = list_all (λ b. k.leq (x b.left) (limit k x b)) edges ≡ true
+
 module _ {k : Kind} (laws : Lawful k) where
   -- times that meet each bound and come over walks are the earliest
-  pub timed : (n : ℕ) (bounds : List Row) (x : ℕ → Exact k) → x 0 ≡ k.zero → list_all (λ b. k.leq (x b.left) (limit k x b)) (force k n bounds) ≡ true
+  pub timed : (n : ℕ) (bounds : List Row) (x : ℕ → Exact k) → x 0 ≡ k.zero → MetBy k x (force k n bounds)
       → ((p : ℕ) → p < n → Reached k (force k n bounds) p (x p)) → Times k n bounds x
   timed n bounds x z m reached =
       let meets : Solution k (force k n bounds) x = record { zero_first = z; meets = met k (force k n bounds) x m } in

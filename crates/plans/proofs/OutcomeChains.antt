@@ -117,7 +117,8 @@ over_first = there_and_back ticks_kind 2 (at_most_five ∷ []) (bound 0 1 (negsu
     back v d left right (of_posted e) = absurd (omega (arith, left, (ends_of e).0))
 
 pub over_second : ChainIs ranked_kind 3 (one_step ∷ (next_step ∷ [])) (bound 2 1 (pos 0) (pos 0)) (0xC0000000 ∷ (0x40000001 ∷ []))
-over_second = there_and_back ranked_kind 3 (one_step ∷ (next_step ∷ [])) (bound 2 1 (pos 0) (pos 0)) ranked_lawful 0x40000001 (omega arith) (λ e. omega arith) back
+over_second =
+    there_and_back ranked_kind 3 (one_step ∷ (next_step ∷ [])) (bound 2 1 (pos 0) (pos 0)) ranked_lawful 0x40000001 (omega arith) (λ e. omega arith) back
   where
     back : ComesBack ranked_kind 3 (one_step ∷ (next_step ∷ [])) (bound 2 1 (pos 0) (pos 0)) 0x40000001
     back v d left right (of_book zero numbered e) = absurd (omega (arith, left, (ends_of numbered.1).0))

@@ -11,7 +11,8 @@ use Rattle.plans.specs.Rows.{exact_of}
 use Rattle.plans.specs.Conflicts.{NamesOf, Named}
 
 -- words other than zero, each at its place, begin the list
-pub begins : (list words : List ℕ) → All (λ w. 0 < w) words → ((i : ℕ) → i < length words → get_or list i 0 ≡ get_or words i 0) → take (length words) list ≡ words
+pub begins : (list words : List ℕ) → All (λ w. 0 < w) words
+    → ((i : ℕ) → i < length words → get_or list i 0 ≡ get_or words i 0) → take (length words) list ≡ words
 begins list [] some same = refl
 begins [] (w ∷ ws) some same =
     let none : 0 ≡ w = same 0 (omega arith) in

@@ -17,7 +17,7 @@ use Rattle.network.proofs.Counting.{apart_cons, apart_one}
 use Rattle.network.proofs.InForce.{floor_held}
 use Rattle.plans.specs.Rows.{exact_of, force, Times}
 use Rattle.plans.specs.Known.{bound, at_most_five, one_step, next_step}
-use Rattle.plans.proofs.OutcomeCalls.{timed}
+use Rattle.plans.proofs.OutcomeCalls.{MetBy, timed}
 
 -- two bounds that lead there and back, and come to less than zero
 pub chain_of_two : (k : Kind) (edges : Bounds k) (b d : ExactBound k) → Contains edges b → Contains edges d → d.left ≡ b.right → d.right ≡ b.left
@@ -26,7 +26,8 @@ chain_of_two k edges b d has_b has_d there back other below = record {
   chain = record {
     start = b.left;
     closed = (refl, (there, back));
-    apart = apart_cons b.left (d.left ∷ []) (All-cons (λ y. ¬ (b.left ≡ y)) d.left [] (λ e. other (e ∙ there)) (All-nil (λ y. ¬ (b.left ≡ y)))) (apart_one d.left);
+    apart =
+        apart_cons b.left (d.left ∷ []) (All-cons (λ y. ¬ (b.left ≡ y)) d.left [] (λ e. other (e ∙ there)) (All-nil (λ y. ¬ (b.left ≡ y)))) (apart_one d.left);
     below = below;
   };
   held = All-cons (Contains edges) b (d ∷ []) has_b (All-cons (Contains edges) d [] has_d (All-nil (Contains edges)));
@@ -101,7 +102,7 @@ stepped =
     (at_floor ranked_kind 3 book refl 2 (omega arith)))
 
 -- with bounds more that these times meet too
-pub stepped_twice : (more : List Row) → list_all (λ b. ranked_kind.leq (three_ranks (pos 2) b.left) (limit ranked_kind (three_ranks (pos 2)) b)) (force ranked_kind 3 (one_step ∷ (next_step ∷ more))) ≡ true
+pub stepped_twice : (more : List Row) → MetBy ranked_kind (three_ranks (pos 2)) (force ranked_kind 3 (one_step ∷ (next_step ∷ more)))
     → Times ranked_kind 3 (one_step ∷ (next_step ∷ more)) (three_ranks (pos 2))
 stepped_twice more m =
     let book = one_step ∷ (next_step ∷ more) in

@@ -49,7 +49,8 @@ one_settled = settles ticks_kind 1 zero_ticks (omega arith) (omega arith) (zeros
 two_settled : Step ticks_kind (fresh 2) (settle 2) (settled 0) (settling (fresh 2))
 two_settled = settles ticks_kind 2 zero_ticks (omega arith) (omega arith) (zeros ticks_lawful 2 [] refl refl)
 
-no_later_run : Run ticks_kind (fresh 1) ((settle 1, settled 0) ∷ ((post 1 (bound 0 0 (pos 0) (pos 0)), moved 0) ∷ [])) (posting (bound 0 0 (pos 0) (pos 0)) (settling (fresh 1)))
+no_later_run : Run ticks_kind (fresh 1) ((settle 1, settled 0) ∷ ((post 1 (bound 0 0 (pos 0) (pos 0)), moved 0) ∷ []))
+    (posting (bound 0 0 (pos 0) (pos 0)) (settling (fresh 1)))
 no_later_run =
     let b = bound 0 0 (pos 0) (pos 0) in
     goes one_settled
@@ -69,7 +70,8 @@ before_itself_run =
     (of_none ticks_kind b)
     (record {
       chain = record { start = 0; closed = (refl, refl); apart = apart_one 0; below = refl };
-      held = All-cons (Contains (force ticks_kind 1 (b ∷ []))) (exact_of ticks_kind b) [] (0, omega arith, refl) (All-nil (Contains (force ticks_kind 1 (b ∷ []))));
+      held = All-cons (Contains (force ticks_kind 1 (b ∷ []))) (exact_of ticks_kind b) [] (0, omega arith, refl)
+          (All-nil (Contains (force ticks_kind 1 (b ∷ []))));
     }))
     rests)
 
@@ -81,8 +83,8 @@ before_start_run =
     (refuses ticks_kind (settling (fresh 2)) refl b (exact_of ticks_kind b ∷ (floor_of ticks_kind 1 ∷ []))
     (record { left = omega arith; right = omega arith; near = omega arith; t = refl; s = refl })
     (of_none ticks_kind b)
-    (chain_of_two ticks_kind (force ticks_kind 2 (b ∷ [])) (exact_of ticks_kind b) (floor_of ticks_kind 1) (0, omega arith, refl) (2, omega arith, refl) refl refl
-    (λ e. omega arith) refl))
+    (chain_of_two ticks_kind (force ticks_kind 2 (b ∷ [])) (exact_of ticks_kind b) (floor_of ticks_kind 1) (0, omega arith, refl) (2, omega arith, refl)
+    refl refl (λ e. omega arith) refl))
     rests)
 
 -- point 1 comes at most 5 after point 0: that moves nothing
@@ -93,7 +95,8 @@ five_posted =
     (of_none ticks_kind at_most_five) (zeros ticks_lawful 2 [] refl refl) (zeros ticks_lawful 2 (at_most_five ∷ []) refl refl) (omega arith)
 
 just_five_run : Run ticks_kind (fresh 2)
-    ((settle 2, settled 0) ∷ ((post 2 at_most_five, moved 0) ∷ ((post 2 (bound 0 1 (negsuc 4) (pos 0)), moved 1) ∷ ((read 1, time (tick (pos 5))) ∷ [])))) (posting (bound 0 1 (negsuc 4) (pos 0)) (posting at_most_five (settling (fresh 2))))
+    ((settle 2, settled 0) ∷ ((post 2 at_most_five, moved 0) ∷ ((post 2 (bound 0 1 (negsuc 4) (pos 0)), moved 1) ∷ ((read 1, time (tick (pos 5))) ∷ []))))
+    (posting (bound 0 1 (negsuc 4) (pos 0)) (posting at_most_five (settling (fresh 2))))
 just_five_run =
     let b = bound 0 1 (negsuc 4) (pos 0) in
     let s = posting at_most_five (settling (fresh 2)) in
@@ -106,7 +109,8 @@ just_five_run =
     (goes (reads ticks_kind (posting b s) refl 1 (two_ticks (pos 5)) (omega arith) fives) rests)))
 
 five_or_six_run : Run ticks_kind (fresh 2)
-    ((settle 2, settled 0) ∷ ((post 2 at_most_five, moved 0) ∷ ((post 2 (bound 0 1 (negsuc 5) (pos 0)), refused (Conflict 2)) ∷ []))) (posting at_most_five (settling (fresh 2)))
+    ((settle 2, settled 0) ∷ ((post 2 at_most_five, moved 0) ∷ ((post 2 (bound 0 1 (negsuc 5) (pos 0)), refused (Conflict 2)) ∷ [])))
+    (posting at_most_five (settling (fresh 2)))
 five_or_six_run =
     let b = bound 0 1 (negsuc 5) (pos 0) in
     let edges = force ticks_kind 2 (at_most_five ∷ (b ∷ [])) in
@@ -156,7 +160,8 @@ step_back_run =
     (λ e. omega arith) refl))
     rests)
 
-many_steps_run : Run ranked_kind (fresh 3) (stepping ++ (post 3 (bound 2 0 (pos 1) (negsuc 499_999_999)), moved 0) ∷ []) (posting (bound 2 0 (pos 1) (negsuc 499_999_999)) after_steps)
+many_steps_run : Run ranked_kind (fresh 3) (stepping ++ (post 3 (bound 2 0 (pos 1) (negsuc 499_999_999)), moved 0) ∷ [])
+    (posting (bound 2 0 (pos 1) (negsuc 499_999_999)) after_steps)
 many_steps_run =
     let b = bound 2 0 (pos 1) (negsuc 499_999_999) in
     stepping_then
@@ -167,7 +172,8 @@ many_steps_run =
     rests)
 
 taken_back_run : Run ticks_kind (fresh 2)
-    ((settle 2, settled 0) ∷ ((mark, slip 0 1) ∷ ((post 2 (bound 0 1 (negsuc 6) (pos 0)), moved 1) ∷ ((back 0 1, done) ∷ ((read 1, time (tick (pos 0))) ∷ []))))) (settling (fresh 2))
+    ((settle 2, settled 0) ∷ ((mark, slip 0 1) ∷ ((post 2 (bound 0 1 (negsuc 6) (pos 0)), moved 1) ∷ ((back 0 1, done) ∷ ((read 1, time (tick (pos 0))) ∷ [])))))
+    (settling (fresh 2))
 taken_back_run =
     let b = bound 0 1 (negsuc 6) (pos 0) in
     let s = settling (fresh 2) in
