@@ -21,11 +21,11 @@ use Rattle.network.proofs.Shortening.{earliest_reached}
 use Rattle.network.proofs.Walking.{chain_refutes}
 
 -- bounds that pass the test one by one are met
-met : (k : Kind) (edges : Bounds k) (t : ℕ → Exact k) → list_all (λ b. k.leq (t b.left) (limit k t b)) edges ≡ true → All (Meets k t) edges
+pub met : (k : Kind) (edges : Bounds k) (t : ℕ → Exact k) → list_all (λ b. k.leq (t b.left) (limit k t b)) edges ≡ true → All (Meets k t) edges
 met k edges t = AllPass-from_list_all (λ b. k.leq (t b.left) (limit k t b)) edges
 
 -- the bounds in force hold those of the book
-held : (k : Kind) (n : ℕ) (book : Bounds k) → All (Contains (bounds_in_force k n book)) book
+pub held : (k : Kind) (n : ℕ) (book : Bounds k) → All (Contains (bounds_in_force k n book)) book
 held k n book = All-weaker (Contains book) (Contains (bounds_in_force k n book)) (Contains-append_left book (floors k n)) book (All-contains_itself book)
 
 five_meets : Solution ticks_kind (bounds_in_force ticks_kind 2 five_five) five

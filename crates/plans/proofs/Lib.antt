@@ -25,3 +25,9 @@ pub mod Spreading
 pub mod Wording
 pub mod Trailing
 pub mod Heading
+pub mod OutcomeCalls
+pub mod OutcomeTimes
+pub mod OutcomeLinks
+pub mod OutcomeWords
+pub mod OutcomeChains
+pub mod Outcomes

@@ -13,3 +13,4 @@ pub mod Plans
 pub mod Misfits
 pub mod Solved
 pub mod Trails
+pub mod Known

@@ -3,6 +3,7 @@
 
 mod checks;
 pub mod fault;
+pub mod known;
 mod label;
 mod mark;
 pub mod plan;
