@@ -1,5 +1,5 @@
 -- Plans with known outcomes: calls on new plans with their answers, and the words of their bounds and chains. Assumes nothing.
-use Rattle.std.specs.Prelude.{◌≡◌, ℕ, List, [], ◌∷◌, ◌++◌, map, length, take, ℤ, pos, negsuc, Ok, Err, Result}
+use Rattle.std.specs.Prelude.{◌≡◌, ℕ, List, [], ◌∷◌, ◌++◌, ◌≤◌, map, length, take, drop, ℤ, pos, negsuc, Ok, Err, Result}
 use Rattle.bounds.specs.declared.row.Row.{Row}
 use Rattle.delays.specs.Kind.{Kind}
 use Rattle.delays.specs.Ticks.{tick, ticks_kind}
@@ -36,11 +36,17 @@ abbrev pub ChainIs : (k : Kind) → ℕ → List Row → Row → List ℕ → Ty
 ChainIs k n book posted words = (before after : List ℕ) (c : ℕ) → ChainWritten k n book (posted ∷ []) before after c
     → (c ≡ length words) × (take c after ≡ words)
 
+-- a list with room for them can be written so that it begins with these words, and they are such a chain
+abbrev pub ChainCan : (k : Kind) → ℕ → List Row → Row → List ℕ → Type 0
+ChainCan k n book posted words = (before : List ℕ) → length words ≤ length before
+    → ChainWritten k n book (posted ∷ []) before (words ++ drop (length words) before) (length words)
+
 -- after the calls on a new plan of n points its book has these bounds, and to post a bound more is a conflict with a chain of these words
 pub record Conflicted (k : Kind) (n : ℕ) (calls : List (Said k)) (book : List Row) (posted : Row) (words : List ℕ) : Type 0 where
   pub answers : Answered k n (calls ++ (post n posted, refused (Conflict (length words))) ∷ [])
   pub stands : rows answers.after ≡ book
   pub chain : ChainIs k n book posted words
+  pub written : ChainCan k n book posted words
 
 -- the check of the words is answered so, and no otherwise
 abbrev pub CheckedOnly : List ℕ → Result ℕ WordFault → Type 0
