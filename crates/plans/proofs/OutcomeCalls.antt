@@ -46,7 +46,8 @@ module _ {k : Kind} (laws : Lawful k) where
 
   -- the last of them a conflict, whose chain is known
   pub conflicted : {n : ℕ} {calls : List (Said k)} {book : List Row} {posted : Row} {words : List ℕ} (t : State)
-      → Run k (fresh n) (calls ++ (post n posted, refused (Conflict (length words))) ∷ []) t → rows t ≡ book → ChainIs k n book posted words → ChainCan k n book posted words
+      → Run k (fresh n) (calls ++ (post n posted, refused (Conflict (length words))) ∷ []) t
+      → rows t ≡ book → ChainIs k n book posted words → ChainCan k n book posted words
       → Conflicted k n calls book posted words
   unfolding answered
   conflicted t run stands chain written = record { answers = answered t run; stands = stands; chain = chain; written = written }

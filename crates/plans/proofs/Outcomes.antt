@@ -18,8 +18,8 @@ use Rattle.plans.specs.Runs.{Said, Run, rests, goes}
 use Rattle.plans.specs.Known.{bound, fresh, at_most_five, one_step, next_step, stepping, KnownOutcomes}
 use Rattle.plans.proofs.OutcomeCalls.{answered, conflicted, uncovered, settles, accepts, refuses, reads}
 use Rattle.plans.proofs.OutcomeTimes.{zeros, two_ticks, fives, sevens, three_ranks, stepped, stepped_twice}
-use Rattle.plans.proofs.OutcomeChains.{alone, over_floor, over_first, over_second, itself_chain, start_chain, six_chain, back_chain}
-use Rattle.plans.proofs.OutcomeChains.{alone_written, floor_written, first_written, second_written}
+use Rattle.plans.proofs.OutcomeChains.{alone, over_floor, over_first, over_second}
+use Rattle.plans.proofs.OutcomeWritten.{itself_chain, start_chain, six_chain, back_chain, alone_written, floor_written, first_written, second_written}
 use Rattle.plans.proofs.OutcomeWords.{greatest_holds, greatest_checked, past_refused}
 
 -- no bound of a short book covers b: none, or none with its left point
