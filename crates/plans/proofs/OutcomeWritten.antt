@@ -16,6 +16,7 @@ use Rattle.plans.specs.Conflicts.{Named}
 use Rattle.plans.specs.Known.{bound, at_most_five, one_step, next_step, ChainCan}
 use Rattle.plans.proofs.OutcomeTimes.{chain_of_two}
 
+-- the word C0000000 names the posted bound
 posted_named : {k : Kind} {book : List Row} (posted : Row) → Named k book (posted ∷ []) 0xC0000000 (exact_of k posted)
 posted_named posted = record { link = Posted; word = record { room = omega arith; value = refl }; names = refl }
 
