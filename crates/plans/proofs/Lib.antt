@@ -30,4 +30,5 @@ pub mod OutcomeTimes
 pub mod OutcomeLinks
 pub mod OutcomeWords
 pub mod OutcomeChains
+pub mod OutcomeWritten
 pub mod Outcomes

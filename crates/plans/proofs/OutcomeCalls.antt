@@ -17,7 +17,7 @@ use Rattle.plans.specs.Answers.{settle, post, read, settled, moved, time, refuse
 use Rattle.plans.specs.States.{State, rows, settling, posting}
 use Rattle.plans.specs.Steps.{Step}
 use Rattle.plans.specs.Runs.{Said, Run}
-use Rattle.plans.specs.Known.{fresh, Answered, ChainIs, Conflicted}
+use Rattle.plans.specs.Known.{fresh, Answered, ChainIs, ChainCan, Conflicted}
 use Rattle.plans.proofs.Agreeing.{runs_agree}
 
 -- both points of the row are below n, and the kind's delay with its parts is in reach
@@ -46,10 +46,11 @@ module _ {k : Kind} (laws : Lawful k) where
 
   -- the last of them a conflict, whose chain is known
   pub conflicted : {n : ℕ} {calls : List (Said k)} {book : List Row} {posted : Row} {words : List ℕ} (t : State)
-      → Run k (fresh n) (calls ++ (post n posted, refused (Conflict (length words))) ∷ []) t → rows t ≡ book → ChainIs k n book posted words
+      → Run k (fresh n) (calls ++ (post n posted, refused (Conflict (length words))) ∷ []) t
+      → rows t ≡ book → ChainIs k n book posted words → ChainCan k n book posted words
       → Conflicted k n calls book posted words
   unfolding answered
-  conflicted t run stands chain = record { answers = answered t run; stands = stands; chain = chain }
+  conflicted t run stands chain written = record { answers = answered t run; stands = stands; chain = chain; written = written }
 
 module _ (k : Kind) where
   -- no bound covers b

@@ -9,7 +9,7 @@ use Rattle.delays.specs.Ranked.{rank, ranked_kind}
 use Rattle.delays.specs.TicksLaws.{ticks_lawful}
 use Rattle.delays.specs.RankedLaws.{ranked_lawful}
 use Rattle.network.specs.Bounds.{ExactBound, Bounds, floor_of}
-use Rattle.network.specs.Assignments.{Lt, limit}
+use Rattle.network.specs.Assignments.{Lt}
 use Rattle.network.specs.Walks.{sum_of}
 use Rattle.network.specs.Chains.{ChainIn}
 use Rattle.network.specs.Earliest.{Reached}

@@ -1,6 +1,5 @@
 -- Plans with known outcomes. Assumes nothing.
 use Rattle.std.proofs.Common.{◌≡◌, ℕ, true, List, [], ◌∷◌, ◌++◌, pos, negsuc, refl, inr, arith}
-use Rattle.std.specs.List.{Contains}
 use Rattle.std.proofs.lemmas.Bool.{both_ways}
 use Rattle.std.proofs.lemmas.List.Elements.{All-nil, All-cons}
 use Rattle.bounds.specs.declared.row.Row.{Row}
@@ -10,17 +9,17 @@ use Rattle.delays.specs.Ranked.{rank, ranked_kind}
 use Rattle.delays.specs.TicksLaws.{ticks_lawful}
 use Rattle.delays.specs.RankedLaws.{ranked_lawful}
 use Rattle.network.specs.Bounds.{floor_of}
-use Rattle.network.proofs.Counting.{apart_one}
 use Rattle.plans.specs.declared.fault.PlanFault.TheVariants.{Conflict}
-use Rattle.plans.specs.Rows.{exact_of, force, Covers, Covered}
+use Rattle.plans.specs.Rows.{exact_of, Covers, Covered}
 use Rattle.plans.specs.Answers.{settle, post, read, mark, back, settled, moved, time, slip, done, refused}
 use Rattle.plans.specs.States.{State, settling, posting, marking}
 use Rattle.plans.specs.Steps.{Step}
 use Rattle.plans.specs.Runs.{Said, Run, rests, goes}
 use Rattle.plans.specs.Known.{bound, fresh, at_most_five, one_step, next_step, stepping, KnownOutcomes}
 use Rattle.plans.proofs.OutcomeCalls.{answered, conflicted, uncovered, settles, accepts, refuses, reads}
-use Rattle.plans.proofs.OutcomeTimes.{chain_of_two, zeros, two_ticks, fives, sevens, three_ranks, stepped, stepped_twice}
+use Rattle.plans.proofs.OutcomeTimes.{zeros, two_ticks, fives, sevens, three_ranks, stepped, stepped_twice}
 use Rattle.plans.proofs.OutcomeChains.{alone, over_floor, over_first, over_second}
+use Rattle.plans.proofs.OutcomeWritten.{itself_chain, start_chain, six_chain, back_chain, alone_written, floor_written, first_written, second_written}
 use Rattle.plans.proofs.OutcomeWords.{greatest_holds, greatest_checked, past_refused}
 
 -- no bound of a short book covers b: none, or none with its left point
@@ -68,11 +67,7 @@ before_itself_run =
     (refuses ticks_kind (settling (fresh 1)) refl b (exact_of ticks_kind b ∷ [])
     (record { left = omega arith; right = omega arith; near = omega arith; t = refl; s = refl })
     (of_none ticks_kind b)
-    (record {
-      chain = record { start = 0; closed = (refl, refl); apart = apart_one 0; below = refl };
-      held = All-cons (Contains (force ticks_kind 1 (b ∷ []))) (exact_of ticks_kind b) [] (0, omega arith, refl)
-          (All-nil (Contains (force ticks_kind 1 (b ∷ []))));
-    }))
+    itself_chain)
     rests)
 
 before_start_run : Run ticks_kind (fresh 2) ((settle 2, settled 0) ∷ ((post 2 (bound 1 0 (negsuc 4) (pos 0)), refused (Conflict 2)) ∷ [])) (settling (fresh 2))
@@ -83,8 +78,7 @@ before_start_run =
     (refuses ticks_kind (settling (fresh 2)) refl b (exact_of ticks_kind b ∷ (floor_of ticks_kind 1 ∷ []))
     (record { left = omega arith; right = omega arith; near = omega arith; t = refl; s = refl })
     (of_none ticks_kind b)
-    (chain_of_two ticks_kind (force ticks_kind 2 (b ∷ [])) (exact_of ticks_kind b) (floor_of ticks_kind 1) (0, omega arith, refl) (2, omega arith, refl)
-    refl refl (λ e. omega arith) refl))
+    start_chain)
     rests)
 
 -- point 1 comes at most 5 after point 0: that moves nothing
@@ -113,15 +107,13 @@ five_or_six_run : Run ticks_kind (fresh 2)
     (posting at_most_five (settling (fresh 2)))
 five_or_six_run =
     let b = bound 0 1 (negsuc 5) (pos 0) in
-    let edges = force ticks_kind 2 (at_most_five ∷ (b ∷ [])) in
     goes two_settled
     (goes five_posted
     (goes
     (refuses ticks_kind (posting at_most_five (settling (fresh 2))) refl b (exact_of ticks_kind b ∷ (exact_of ticks_kind at_most_five ∷ []))
     (record { left = omega arith; right = omega arith; near = omega arith; t = refl; s = refl })
     (of_one ticks_kind b at_most_five (λ e. omega arith))
-    (chain_of_two ticks_kind edges (exact_of ticks_kind b) (exact_of ticks_kind at_most_five) (1, omega arith, refl) (0, omega arith, refl) refl refl
-    (λ e. omega arith) refl))
+    six_chain)
     rests))
 
 -- a plan of three points, ranked, after two steps
@@ -150,14 +142,12 @@ two_steps_run = stepping_then (goes (reads ranked_kind after_steps refl 2 (three
 step_back_run : Run ranked_kind (fresh 3) (stepping ++ (post 3 (bound 2 1 (pos 0) (pos 0)), refused (Conflict 2)) ∷ []) after_steps
 step_back_run =
     let b = bound 2 1 (pos 0) (pos 0) in
-    let edges = force ranked_kind 3 (one_step ∷ (next_step ∷ (b ∷ []))) in
     stepping_then
     (goes
     (refuses ranked_kind after_steps refl b (exact_of ranked_kind b ∷ (exact_of ranked_kind next_step ∷ []))
     (record { left = omega arith; right = omega arith; near = omega arith; t = refl; s = refl })
     (of_two ranked_kind b one_step next_step (λ e. omega arith) (λ e. omega arith))
-    (chain_of_two ranked_kind edges (exact_of ranked_kind b) (exact_of ranked_kind next_step) (2, omega arith, refl) (1, omega arith, refl) refl refl
-    (λ e. omega arith) refl))
+    back_chain)
     rests)
 
 many_steps_run : Run ranked_kind (fresh 3) (stepping ++ (post 3 (bound 2 0 (pos 1) (negsuc 499_999_999)), moved 0) ∷ [])
@@ -172,7 +162,8 @@ many_steps_run =
     rests)
 
 taken_back_run : Run ticks_kind (fresh 2)
-    ((settle 2, settled 0) ∷ ((mark, slip 0 1) ∷ ((post 2 (bound 0 1 (negsuc 6) (pos 0)), moved 1) ∷ ((back 0 1, done) ∷ ((read 1, time (tick (pos 0))) ∷ [])))))
+    ((settle 2, settled 0) ∷ ((mark, slip 0 1) ∷ ((post 2 (bound 0 1 (negsuc 6) (pos 0)), moved 1)
+    ∷ ((back 0 1, done) ∷ ((read 1, time (tick (pos 0))) ∷ [])))))
     (settling (fresh 2))
 taken_back_run =
     let b = bound 0 1 (negsuc 6) (pos 0) in
@@ -191,12 +182,12 @@ taken_back_run =
 pub outcomes : KnownOutcomes
 outcomes = record {
   no_later = answered ticks_lawful _ no_later_run;
-  before_itself = conflicted ticks_lawful _ before_itself_run refl alone;
-  before_start = conflicted ticks_lawful _ before_start_run refl over_floor;
+  before_itself = conflicted ticks_lawful _ before_itself_run refl alone alone_written;
+  before_start = conflicted ticks_lawful _ before_start_run refl over_floor floor_written;
   just_five = answered ticks_lawful _ just_five_run;
-  five_or_six = conflicted ticks_lawful _ five_or_six_run refl over_first;
+  five_or_six = conflicted ticks_lawful _ five_or_six_run refl over_first first_written;
   two_steps = answered ranked_lawful _ two_steps_run;
-  step_back = conflicted ranked_lawful _ step_back_run refl over_second;
+  step_back = conflicted ranked_lawful _ step_back_run refl over_second second_written;
   many_steps = answered ranked_lawful _ many_steps_run;
   taken_back = answered ticks_lawful _ taken_back_run;
   twenty = refl;

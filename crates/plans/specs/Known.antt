@@ -1,5 +1,5 @@
 -- Plans with known outcomes: calls on new plans with their answers, and the words of their bounds and chains. Assumes nothing.
-use Rattle.std.specs.Prelude.{◌≡◌, ℕ, List, [], ◌∷◌, ◌++◌, map, length, take, ℤ, pos, negsuc, Ok, Err, Result}
+use Rattle.std.specs.Prelude.{◌≡◌, ℕ, List, [], ◌∷◌, ◌++◌, ◌≤◌, map, length, take, drop, ℤ, pos, negsuc, Ok, Err, Result}
 use Rattle.bounds.specs.declared.row.Row.{Row}
 use Rattle.delays.specs.Kind.{Kind}
 use Rattle.delays.specs.Ticks.{tick, ticks_kind}
@@ -20,7 +20,7 @@ use Rattle.plans.specs.Runs.{Said, Run, call_of, answer_of}
 abbrev pub bound : ℕ → ℕ → ℤ → ℤ → Row
 bound left right t s = record { left = left; right = right; t = t; s = s }
 
--- a new plan of n points over a table with no bound
+-- a new plan of n points, with the plan number 0, over a table with no bound
 abbrev pub fresh : ℕ → State
 fresh n = opened (table_of []) n 0
 
@@ -36,11 +36,18 @@ abbrev pub ChainIs : (k : Kind) → ℕ → List Row → Row → List ℕ → Ty
 ChainIs k n book posted words = (before after : List ℕ) (c : ℕ) → ChainWritten k n book (posted ∷ []) before after c
     → (c ≡ length words) × (take c after ≡ words)
 
--- after the calls on a new plan of n points its book has these bounds, and to post a bound more is a conflict with a chain of these words
+-- a list with room for them can be written so that it begins with these words, and they are such a chain
+abbrev pub ChainCan : (k : Kind) → ℕ → List Row → Row → List ℕ → Type 0
+ChainCan k n book posted words = (before : List ℕ) → length words ≤ length before
+    → ChainWritten k n book (posted ∷ []) before (words ++ drop (length words) before) (length words)
+
+-- after the calls on a new plan of n points, to post a bound more is a conflict with a chain of these words
 pub record Conflicted (k : Kind) (n : ℕ) (calls : List (Said k)) (book : List Row) (posted : Row) (words : List ℕ) : Type 0 where
   pub answers : Answered k n (calls ++ (post n posted, refused (Conflict (length words))) ∷ [])
+  -- the book has these bounds, and not the one that was posted
   pub stands : rows answers.after ≡ book
   pub chain : ChainIs k n book posted words
+  pub written : ChainCan k n book posted words
 
 -- the check of the words is answered so, and no otherwise
 abbrev pub CheckedOnly : List ℕ → Result ℕ WordFault → Type 0
@@ -70,7 +77,7 @@ pub record KnownOutcomes : Type 0 where
   pub no_later : Answered ticks_kind 1 ((settle 1, settled 0) ∷ ((post 1 (bound 0 0 (pos 0) (pos 0)), moved 0) ∷ []))
   -- a point can't come before itself: the chain is the posted bound alone
   pub before_itself : Conflicted ticks_kind 1 ((settle 1, settled 0) ∷ []) [] (bound 0 0 (negsuc 0) (pos 0)) (0xC0000000 ∷ [])
-  -- point 1 can't come before point 0: the chain is the posted bound and the floor of point 1
+  -- point 1 can't come 5 before point 0: the chain is the posted bound and the floor of point 1
   pub before_start : Conflicted ticks_kind 2 ((settle 2, settled 0) ∷ []) [] (bound 1 0 (negsuc 4) (pos 0)) (0xC0000000 ∷ (0x80000001 ∷ []))
   -- point 1 comes at most 5 after point 0, and at least 5: so it comes at 5
   pub just_five : Answered ticks_kind 2
