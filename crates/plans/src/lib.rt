@@ -17,6 +17,7 @@ mod times;
 mod trace;
 
 pub use fault::PlanFault;
+pub use known::known_outcomes;
 pub use plan::Plan;
 pub use posted::Posted;
 pub use slip::Slip;
