@@ -11,7 +11,7 @@ use Rattle.books.specs.Faults as books
 use Rattle.plans.specs.declared.fault.PlanFault.{PlanFault}
 use Rattle.plans.specs.declared.fault.PlanFault.TheVariants.{Unsettled, SettledAlready, Points, ListShort, Point, Kind, Conflict, MarksFull, WrongSlip, Bound, Book}
 
--- how a fault of a layer below goes up: that of a bound,
+-- a fault of a layer below as one of plans, carried whole: that of a bound,
 abbrev pub of_bound : BoundFault → PlanFault
 of_bound e = Bound e
 

@@ -14,7 +14,7 @@ use Rattle.scripts.specs.declared.fault.ScriptFault.TheVariants.{Line, Bound as 
 use Rattle.scripts.specs.declared.command.Command.{Command}
 use Rattle.scripts.specs.declared.command.Command.TheVariants.{Ticks, Ranked, Post, Try, Read}
 
--- the letters of commands, as bytes
+-- the letters of commands, as bytes: T, R, P, Q and W
 abbrev pub letter_T : ℕ
 letter_T = 84
 

@@ -11,7 +11,7 @@ use Rattle.plans.specs.Faults as plans
 use Rattle.scripts.specs.declared.fault.ScriptFault.{ScriptFault}
 use Rattle.scripts.specs.declared.fault.ScriptFault.TheVariants.{Room, Line, Bound, Plan}
 
--- how a fault of a layer below goes up
+-- a fault of a layer below as one of scripts, carried whole
 abbrev pub of_line : LineFault → ScriptFault
 of_line e = Line e
 

@@ -2,7 +2,7 @@
 use Rattle.std.specs.Prelude.{ℕ, List, [], ◌∷◌, ◌==◌}
 use Rattle.std.specs.List.{slice_split}
 
--- a line that has begun
+-- what has begun of a line, as a line where it is not empty
 abbrev pub begun : List ℕ → List (List ℕ)
 begun [] = []
 begun (b ∷ bs) = (b ∷ bs) ∷ []

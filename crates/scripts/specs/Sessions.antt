@@ -90,6 +90,7 @@ abbrev pub ReadingAnswered : Session → Result Command ScriptFault → Answer �
 ReadingAnswered s (Ok c) a after = Answered s c a after
 ReadingAnswered s (Err e) a after = (a ≡ answers.Refused (fault_of e)) × (after ≡ s)
 
+-- the answer to a line, as what it is read as, and the session after it
 abbrev pub LineAnswered : Session → List ℕ → Answer → Session → Type 0
 LineAnswered s line a after = (r : Result Command ScriptFault) × CommandOf line r × ReadingAnswered s r a after
 

@@ -8,12 +8,12 @@ pub enum Answer {
     Settled { count: usize },
     // A: accepted, and so many points moved
     Moved { count: usize },
-    // C
+    // C: covered by a bound of the book
     Covered,
-    // X
+    // X: no times meet it with the bounds in force
     Conflict,
     // W: the earliest time of the point, as its parts
     Time { point: u16, t: i64, s: i64 },
-    // E
+    // E: refused
     Refused(Fault),
 }

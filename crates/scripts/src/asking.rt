@@ -31,6 +31,7 @@ pub(crate) fn fault_answer(fault: PlanFault) -> Answer
     }
 }
 
+// The answer to a line that posts.
 fn posted_answer(outcome: Result<Posted, PlanFault>) -> Answer
     ensures says { (k : Kind) → Answers k 0 (post_answer outcome) result }
     ensures short { ShortTime result }
@@ -42,6 +43,7 @@ fn posted_answer(outcome: Result<Posted, PlanFault>) -> Answer
     }
 }
 
+// The answer to a line that reads the point.
 fn time_answer<D: Delay>(point: u16, outcome: Result<D, PlanFault>) -> Answer
     requires parts { ShortParts D.kind }
     ensures says { Answers D.kind point (read_answer D.means outcome) result }

@@ -12,6 +12,7 @@ use bounds::{Bound, BoundFault};
 use lines::fault::LineFault;
 use lines::fields::Fields;
 
+// The greatest point of a bound, which `W` takes too.
 const GREATEST_POINT: i64 = 4_095;
 
 // The command of a line: a letter, and its numbers.
