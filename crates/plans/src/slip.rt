@@ -1,19 +1,22 @@
-ghost use Rattle.std.specs.Prelude.{◌≡◌};
+ghost use Rattle.std.specs.Prelude.{◌≡◌, true, false};
 
-// A slip: what a mark hands out, to be handed to keep or back. It can't be copied, and its drop asks what nothing can give, so whoever has one
-// must hand it on. It is judged by its plan number and its depth alone.
+// A slip: what a mark hands out, to be handed to keep or back. It can't be copied, and it may be let go only once it is spent, which
+// keep and back alone make it; so whoever has one must hand it on. It is judged by its plan number and its depth alone.
 pub struct Slip {
     number: u32,
     depth: usize,
+    // whether keep or back has had it
+    spent: bool,
 }
 
 impl Drop for Slip {
     fn drop(self)
-        requires { ⊥ }
+        requires { self.spent ≡ true }
     {
         let Slip {
             number: _,
             depth: _,
+            spent: _,
         } = self;
     }
 }
@@ -22,8 +25,13 @@ impl Slip {
     pub(crate) fn new(number: u32, depth: usize) -> Slip
         ensures number { result.number ≡ number }
         ensures depth { result.depth ≡ depth }
+        ensures fresh { result.spent ≡ false }
     {
-        Slip { number, depth }
+        Slip {
+            number,
+            depth,
+            spent: false,
+        }
     }
 
     pub fn number(&self) -> u32
@@ -38,12 +46,12 @@ impl Slip {
         self.depth
     }
 
-    // Takes the slip apart, so that its drop does not run.
-    pub(crate) fn spent(self) -> (u32, usize)
-        ensures number { result.0 ≡ self.number }
-        ensures depth { result.1 ≡ self.depth }
+    // Spends the slip, so that it may be let go.
+    pub(crate) fn spend(&mut self)
+        ensures number { self.new.number ≡ self.old.number }
+        ensures depth { self.new.depth ≡ self.old.depth }
+        ensures spent { self.new.spent ≡ true }
     {
-        let Slip { number, depth } = self;
-        (number, depth)
+        self.spent = true;
     }
 }

@@ -1,5 +1,5 @@
 // The calls on a plan.
-ghost use Rattle.std.specs.Prelude.{◌≡◌, true, false, MatchResult};
+ghost use Rattle.std.specs.Prelude.{IfOk, ◌≡◌, true, false, MatchResult};
 ghost use Rattle.plans.specs.Answers.{read, mark, keep, back};
 ghost use Rattle.plans.specs.States.{State, opened, depth, noted};
 ghost use Rattle.plans.specs.Steps.{Step, Present};
@@ -111,6 +111,7 @@ impl<D: Delay, B: Book> Plan<D, B> {
     #[tactic(auto, using(crate::proofs::Sounds::sound_marked))]
     pub fn mark(&mut self) -> Result<Slip, PlanFault>
         ensures step { Step D.kind (state_of self.old) mark (mark_answer result) (state_of self.new) }
+        ensures fresh { IfOk result (λ s. s.spent ≡ false) }
         ensures book { self.new.book ≡ self.old.book }
     {
         self.check_settled()?;
@@ -127,13 +128,13 @@ impl<D: Delay, B: Book> Plan<D, B> {
     }
 
     // Takes the slip, also where it refuses: it is good where it has the plan's number and present depth, and a mark is open.
-    fn check_slip(&self, slip: Slip) -> Result<(), PlanFault>
+    fn check_slip(&self, mut slip: Slip) -> Result<(), PlanFault>
         ensures { MatchResult result
             (λ u. Present (state_of self.now) slip.number slip.depth)
             (λ e. (e ≡ PlanFault.WrongSlip) × (Present (state_of self.now) slip.number slip.depth → ⊥)) }
     {
-        let (number, depth) = slip.spent();
-        if number == self.number && depth == self.marks.len() && depth > 0 {
+        slip.spend();
+        if slip.number() == self.number && slip.depth() == self.marks.len() && slip.depth() > 0 {
             Ok(())
         } else {
             Err(PlanFault::WrongSlip)
