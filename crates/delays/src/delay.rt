@@ -1,6 +1,9 @@
 ghost use Rattle.std.specs.Prelude.{◌≡◌, ℕ, ◌*◌, ◌<◌, ◌≤◌, MatchOption, Decides};
 ghost use Rattle.std.specs.Ordering.{partial_le};
+ghost use Rattle.delays.specs.Faults.{PairRead};
 ghost use Rattle.delays.specs.Kind.{Kind, Exact, Within, Lawful, Parts, Unread};
+
+use crate::fault::KindFault;
 
 // A kind of delay. A value means one exact delay of the kind, of a size within its reach. What is computed with values is
 // exact, and answers nothing where it would leave the reach.
@@ -21,10 +24,12 @@ pub trait Delay: Copy + Ord {
     // The exact delay that a value means.
     ghost means: { Self → Exact kind };
 
-    // Methods and not `Default`, `Neg` and `Add`: those would need a law each to say what these clauses say, and `Add` can't answer nothing.
+    // The delay that adds nothing. It and the next two are methods, and not `Default`, `Neg` and `Add`: those would need a law each
+    // to say what these clauses say, and `Add` can't answer nothing.
     fn zero() -> Self
         ensures { means result ≡ kind.zero };
 
+    // The delay that this one adds up with to zero.
     fn opposite(self) -> Self
         ensures { means result ≡ kind.opposite (means self) };
 
@@ -36,7 +41,7 @@ pub trait Delay: Copy + Ord {
     fn parts(self) -> (i64, i64)
         ensures { Parts kind (means self) result.0 result.1 };
 
-    // The delay with the parts t and s, or nothing exactly when no delay has them.
+    // The delay with the parts t and s, or nothing exactly when no delay within the reach has them.
     fn read(t: i64, s: i64) -> Option<Self>
         ensures { MatchOption result (Unread kind t s) (λ v. Parts kind (means v) t s) };
 
@@ -50,10 +55,19 @@ pub trait Delay: Copy + Ord {
 
     ghost equal: { (x y : Self) → Decides (Self.eq x y) (means x ≡ means y) };
 
+    // The kind keeps the laws of every kind.
     ghost lawful: { Lawful kind };
 
     // The sum of 256 delays of a size of at most the greatest is within the reach.
     ghost room: { 256 * kind.greatest ≤ kind.reach };
 
+    // No value means a delay past the reach.
     ghost within: { (x : Self) → Within kind (means x) };
+}
+
+// The delay with the parts t and s; or fault 6, which names no place, where no delay within the reach has them.
+pub fn read_pair<D: Delay>(t: i64, s: i64) -> Result<D, KindFault>
+    ensures { PairRead D.kind D.means t s result }
+{
+    D::read(t, s).ok_or(KindFault::Unread)
 }

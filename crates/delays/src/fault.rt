@@ -8,7 +8,7 @@ use std::fmt;
 // Why a pair of parts is no delay.
 #[derive(Clone, Copy, PartialEq, Eq, Debug)]
 pub enum KindFault {
-    // no delay of the kind has the pair
+    // no delay of the kind within the reach has the pair
     Unread,
 }
 

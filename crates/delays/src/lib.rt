@@ -9,9 +9,9 @@ pub mod ranked;
 pub mod ticks;
 pub mod totals;
 
-pub use delay::Delay;
+pub use delay::{Delay, read_pair};
 pub use fault::KindFault;
 pub use has_delay::HasDelay;
 pub use ranked::Ranked;
 pub use ticks::Ticks;
-pub use totals::{read_pair, total};
+pub use totals::total;

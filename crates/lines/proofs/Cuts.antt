@@ -1,5 +1,6 @@
--- Where a line is cut into fields.
-use Rattle.std.proofs.Common.{◌≡◌, ℕ, zero, suc, ◌+◌, ◌^◌, ◌<◌, ◌≤◌, ◌⊎◌, Bool, eqb, true, false, List, [], ◌∷◌, ◌++◌, length, get_or, Some, None, Option, Bor, ap, subst, ◌∙◌, inl, inr, arith, cond, refl}
+-- Where a line is cut into fields. Assumes nothing.
+use Rattle.std.proofs.Common.{◌≡◌, ℕ, zero, suc, ◌+◌, ◌^◌, ◌<◌, ◌≤◌, ◌⊎◌, Bool, eqb, true, false, List, [], ◌∷◌, ◌++◌, length, get_or, Some, None, Option, Bor}
+use Rattle.std.proofs.Common.{ap, subst, ◌∙◌, inl, inr, arith, cond, refl}
 use Rattle.std.proofs.lemmas.Bool.{ne_eqb, cases_eq}
 use Rattle.std.proofs.lemmas.Grind.{common_steps}
 use Rattle.std.proofs.lemmas.List.{get_or_default}

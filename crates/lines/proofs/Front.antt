@@ -1,5 +1,6 @@
--- The first bytes of a line decide its reading, since a field that is too long is refused whatever it holds.
-use Rattle.std.proofs.Common.{◌≡◌, ℕ, zero, suc, ◌+◌, ◌-◌, ◌*◌, ◌<◌, ◌≤◌, List, [], ◌∷◌, length, take, None, Err, Option, Result, sym, ap, ◌∙◌, inl, inr, mul-suc, arith, length-take}
+-- The first bytes of a line decide its reading, since a field that is too long is refused whatever it holds. Assumes nothing.
+use Rattle.std.proofs.Common.{◌≡◌, ℕ, zero, suc, ◌+◌, ◌-◌, ◌*◌, ◌<◌, ◌≤◌, List, [], ◌∷◌, length, take, None, Err, Option, Result, sym, ap, ◌∙◌, inl, inr}
+use Rattle.std.proofs.Common.{mul-suc, arith, length-take}
 use lib.Seq.{take-append-add}
 use Rattle.std.proofs.lemmas.List.{take_all, take-append-le, get_or-take}
 use Rattle.std.proofs.lemmas.Bool.{cases_lt}

@@ -1,4 +1,4 @@
--- Keeping the first bytes of a list that grows at its end.
+-- Keeping the first bytes of a list that grows at its end. Assumes nothing.
 use Rattle.std.proofs.Common.{◌≡◌, ℕ, zero, suc, List, [], ◌∷◌, ◌++◌, take, refl, ap, ◌∙◌}
 
 -- what was cut off does not matter to the first n

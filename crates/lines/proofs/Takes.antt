@@ -1,7 +1,9 @@
--- Values that are taken one by one from the fields of a line.
-use Rattle.std.proofs.Common.{◌≡◌, ℕ, suc, ◌+◌, ◌-◌, ◌<◌, List, [], ◌∷◌, ◌++◌, length, take, set, Ok, Err, Some, Option, Result, refl, ap, sym, ◌∙◌, inl, inr, append_assoc, add-one, arith}
-use Rattle.std.proofs.lemmas.List.{take_more_set}
+-- Values that are taken one by one from the fields of a line. Assumes nothing.
+use Rattle.std.proofs.Common.{◌≡◌, ℕ, suc, ◌+◌, ◌-◌, ◌<◌, List, [], ◌∷◌, ◌++◌, length, take, drop, set, Ok, Err, Some, Option, Result, refl, ap, sym, ◌∙◌, inl, inr}
+use Rattle.std.proofs.Common.{append_assoc, add-one, arith}
+use Rattle.std.proofs.lemmas.List.{drop-drop, take_more_set}
 use Rattle.lines.specs.declared.fault.LineFault.{LineFault}
+use Rattle.lines.specs.declared.fault.LineFault.TheVariants.{Unreadable}
 use Rattle.lines.specs.Faults.{place_of}
 use Rattle.lines.specs.Reading.{with_first, readings, Taken}
 
@@ -15,12 +17,24 @@ after_more : {X : Type 0} (p : ℕ) (xs : List X) (x : X) (r : Result (List X) �
 after_more p xs x (Ok ys) = ap Ok (sym (append_assoc xs (x ∷ []) ys))
 after_more p xs x (Err q) = refl
 
--- no value is taken yet
-pub after_none : {X : Type 0} (r : Result (List X) ℕ) → after [] r ≡ r
-after_none (Ok ys) = refl
-after_none (Err q) = refl
+-- where a field after the first i of them all is taken, those after it are left
+pub left_after : (i : ℕ) (every fs gs : List (List ℕ)) → fs ≡ drop i every → gs ≡ drop 1 fs → gs ≡ drop (i + 1) every
+left_after i every fs gs left next = next ∙ (ap (drop 1) left ∙ drop-drop 1 i every)
+
+-- and a refusal of the field at that place leaves those after it too
+pub left_after_fault : (i : ℕ) (every fs gs : List (List ℕ)) (e : LineFault) → fs ≡ drop i every → gs ≡ drop 1 fs → e ≡ Unreadable (i + 1)
+    → gs ≡ drop (place_of e) every
+left_after_fault i every fs gs e left next fault = left_after i every fs gs left next ∙ ap (λ p. drop p every) (sym (ap place_of fault))
 
 module _ {X : Type 0} (read : List ℕ → Option X) where
+  -- a field that is missing or bad is taken, where it is there
+  pub bad_taken : (p : ℕ) (fs gs : List (List ℕ)) (e : LineFault) → Taken read p fs (Err e) gs → gs ≡ drop 1 fs
+  bad_taken p fs gs e t =
+      elim t.1 [
+        | inl none ↦ none.1 ∙ sym (ap (drop 1) none.0)
+        | inr (f, is, bad) ↦ sym (ap (drop 1) is)
+      ]
+
   -- a field that is taken is one of those that were left
   pub one_less : (p : ℕ) (fs gs : List (List ℕ)) (x : X) → Taken read p fs (Ok x) gs → length fs ≡ length gs + 1
   one_less p fs gs x h = ap length h.1 ∙ sym (add-one (length gs))

@@ -1,5 +1,6 @@
 -- What is written of a number is read as that number, and texts with spaces between them are read one by one. Assumes nothing.
-use Rattle.std.proofs.Common.{◌≡◌, ℕ, suc, ◌+◌, ◌*◌, ◌/◌, ◌%◌, ◌^◌, ◌<◌, List, [], ◌∷◌, ◌++◌, length, get_or, ℤ, pos, negsuc, Some, None, Ok, decimal, Option, option_and_then, option_map, neg_ℤ, refl, ap, ◌∙◌, arith}
+use Rattle.std.proofs.Common.{◌≡◌, ℕ, suc, ◌+◌, ◌*◌, ◌/◌, ◌%◌, ◌^◌, ◌<◌, List, [], ◌∷◌, ◌++◌, length, get_or, ℤ, pos, negsuc, Some, None, Ok, decimal, Option}
+use Rattle.std.proofs.Common.{option_and_then, option_map, neg_ℤ, sym, refl, ap, ◌∙◌, arith}
 use lib.Signed.{mag}
 use Rattle.std.proofs.lemmas.Fmt.{decimal_is_IsNumeral, decimal_nonempty, decimal_by_steps, length-decimal-le}
 use Rattle.std.proofs.lemmas.Str.Parse.{numerals_by_value, tells_digits, not_in_digits}
@@ -8,10 +9,11 @@ use Rattle.std.proofs.lemmas.Bool.Decides.{nat_tests}
 use Rattle.std.specs.Str.Parse.{AllDigits}
 use Rattle.std.specs.Int.{IsInRange}
 use Rattle.std.specs.Fmt.{signed_decimal}
-use Rattle.lines.specs.Digits.{digit, digits_after}
+use Rattle.lines.specs.Digits.{digit}
 use Rattle.lines.specs.Decimal.{natural, number}
 use Rattle.lines.specs.Fields.{fields}
 use Rattle.lines.specs.Reading.{with_first, readings}
+use Rattle.lines.proofs.Digits.{digits_after, digits_from_zero}
 use Rattle.lines.proofs.Cuts.{Solid, solid_more, fields_last, fields_cut}
 
 -- the text is one field, in which the reader finds x
@@ -67,7 +69,7 @@ decimal_lacks n c h other = not_in_digits (numerals_by_value (AllDigits 10) tell
 natural_decimal : (n : ℕ) → n < 10 ^ 10 → natural (decimal n) ≡ Some n
 natural_decimal n h =
     cond-true _ _ _ (and_from _ _ (lt-ltb 0 _ (decimal_nonempty n (omega arith))) (le-leb _ 10 (length-decimal-le 10 n (omega arith) h (omega arith))))
-    ∙ digits_decimal n (omega arith)
+    ∙ (sym (digits_from_zero 10 (decimal n)) ∙ digits_decimal n (omega arith))
 
 -- a field with no minus in front has the number of its digits
 number_plain : (ds : List ℕ) → (0 < length ds → get_or ds 0 0 ≡ 45 → ⊥) → number ds ≡ option_map pos (natural ds)

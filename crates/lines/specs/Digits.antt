@@ -1,5 +1,5 @@
 -- The number that digits write in a base up to sixteen. Assumes nothing.
-use Rattle.std.specs.Prelude.{ℕ, ◌+◌, ◌-◌, ◌*◌, cond, ◌&&◌, List, [], ◌∷◌, Some, None, Option, option_and_then, nat_le, nat_lt}
+use Rattle.std.specs.Prelude.{ℕ, ◌+◌, ◌-◌, ◌*◌, ◌^◌, cond, ◌&&◌, List, [], ◌∷◌, length, Some, None, Option, option_map, option_and_then, nat_le, nat_lt}
 
 -- the value of a byte as a digit: 0 to 9 for themselves, and A to F or a to f for ten to fifteen
 abbrev pub any_digit : ℕ → Option ℕ
@@ -16,7 +16,7 @@ below base (Some d) = cond (nat_lt d base) (Some d) None
 abbrev pub digit : ℕ → ℕ → Option ℕ
 digit base c = below base (any_digit c)
 
--- the number that digits write after those of n, the most significant first, or nothing where a byte is no digit
-abbrev pub digits_after : ℕ → ℕ → List ℕ → Option ℕ
-digits_after base n [] = Some n
-digits_after base n (c ∷ cs) = option_and_then (λ d. digits_after base (n * base + d) cs) (digit base c)
+-- the number that digits write: each digit counts as often as the base to the power of how many digits stand after it; or nothing where a byte is no digit
+abbrev pub digits_value : ℕ → List ℕ → Option ℕ
+digits_value base [] = Some 0
+digits_value base (c ∷ cs) = option_and_then (λ d. option_map (λ n. d * base ^ length cs + n) (digits_value base cs)) (digit base c)

@@ -1,5 +1,5 @@
 -- The values in the fields of a line, by any reader of one field. Assumes nothing.
-use Rattle.std.specs.Prelude.{◌≡◌, ℕ, zero, suc, ◌⊎◌, List, [], ◌∷◌, Some, None, Ok, Err, Option, Result}
+use Rattle.std.specs.Prelude.{◌≡◌, ◌≢◌, ℕ, zero, suc, ◌+◌, ◌<◌, ◌⊎◌, List, [], ◌∷◌, drop, length, map, slice_index_or, Some, None, Ok, Err, Option, Result}
 use Rattle.lines.specs.declared.fault.LineFault.{LineFault}
 use Rattle.lines.specs.declared.fault.LineFault.TheVariants.{Unreadable}
 use Rattle.lines.specs.Faults.{place_of}
@@ -36,3 +36,22 @@ listed (Err e) = Err (place_of e)
 -- the fields, from place 1 on, are just the n values of the answer, or the one that it refuses is the first at fault
 abbrev pub HoldsJust : {X : Type 0} → (List ℕ → Option X) → ℕ → List (List ℕ) → Result (List X) LineFault → Type 0
 HoldsJust read n fs r = readings read 1 n fs ≡ listed r
+
+-- gs are what is left of the fields fs, from place 1 on: none after an answer, and after a refusal those after the field at fault
+abbrev pub TakenUpto : {X : Type 0} → List (List ℕ) → Result (List X) LineFault → List (List ℕ) → Type 0
+TakenUpto fs (Ok xs) gs = gs ≡ []
+TakenUpto fs (Err e) gs = gs ≡ drop (place_of e) fs
+
+-- the field at this place, from 0, is there and has a value
+abbrev pub HasValue : {X : Type 0} → (List ℕ → Option X) → List (List ℕ) → ℕ → Type 0
+HasValue read fs k = (k < length fs) × (read (slice_index_or fs k []) ≢ None)
+
+-- Of n fields, k from 0 is the first at fault: those before it have values, and it has none or is not there, or it is one more than n.
+pub record FirstAtFault {X : Type 0} (read : List ℕ → Option X) (n : ℕ) (fs : List (List ℕ)) (k : ℕ) : Type 0 where
+  pub before : (j : ℕ) → j < k → HasValue read fs j
+  pub fault : ((k < n) × (¬ HasValue read fs k)) ⊎ ((k ≡ n) × (k < length fs))
+
+-- The law of readings: values are those of the fields, one each, of which there are n; and a refusal names the first field at fault, from 1.
+abbrev pub Told : {X : Type 0} → (List ℕ → Option X) → ℕ → List (List ℕ) → Result (List X) LineFault → Type 0
+Told read n fs (Ok xs) = (map read fs ≡ map Some xs) × (length fs ≡ n)
+Told read n fs (Err e) = (k : ℕ) × (place_of e ≡ k + 1) × FirstAtFault read n fs k

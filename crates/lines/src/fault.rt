@@ -1,17 +1,17 @@
-// Why a line is refused.
 ghost use Rattle.std.specs.Prelude.{◌≡◌, Some};
 ghost use Rattle.lines.specs.Faults.{fault_of, reason_of};
 
 use faults::{Fault, Layer};
 use std::fmt;
 
+// Why a line is refused.
 #[derive(Clone, Copy, PartialEq, Eq, Debug)]
 pub enum LineFault {
     // The field at this place is missing, bad or extra. The reader of a line says at which place its fields begin.
     Unreadable { field: u64 },
 }
 
-// The refusal as every layer tells it.
+// Fault 12 of layer L, at the field.
 impl From<LineFault> for Fault {
     ghost from_gives = { λ e r. r ≡ fault_of e };
 

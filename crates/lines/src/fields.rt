@@ -33,7 +33,7 @@ impl<'a> Iterator for Fields<'a> {
 
 impl<'a> Fields<'a> {
     ghost use Rattle.lines.specs.Fields.{fields, left_of};
-    ghost use Rattle.lines.specs.Reading.{Taken, Ended, HoldsJust};
+    ghost use Rattle.lines.specs.Reading.{Taken, Ended, HoldsJust, TakenUpto};
 
     // All the fields of a line.
     pub fn new(line: &'a [u8]) -> Fields<'a>
@@ -42,7 +42,7 @@ impl<'a> Fields<'a> {
         Fields { rest: Some(line) }
     }
 
-    // The value in the next field, which stands at `place`.
+    // The value in the next field, which stands at `place`; or fault 12 at that place, where the field is missing or has no such value.
     pub fn value<T: FromField>(&mut self, place: u64) -> Result<T, LineFault>
         ensures { Taken T.reading place (left_of self.old) result (left_of self.new) }
     {
@@ -50,7 +50,7 @@ impl<'a> Fields<'a> {
         T::from_field(self.next().ok_or(fault)?).ok_or(fault)
     }
 
-    // No field is left, at `place` or after it.
+    // Nothing, where no field is left; or fault 12 at `place`, where one stands there, which is then taken.
     pub fn end(&mut self, place: u64) -> Result<(), LineFault>
         ensures { Ended place (left_of self.old) result (left_of self.new) }
     {
@@ -60,9 +60,11 @@ impl<'a> Fields<'a> {
         }
     }
 
-    // The values that are in all the fields left, the first at place 1.
+    // The N values that are in all the fields left, the first at place 1; or fault 12, at the first field that is missing, bad or extra.
+    // The fields up to that one are taken.
     pub fn last_values<T: FromField, const N: usize>(&mut self) -> Result<[T; N], LineFault>
-        ensures { HoldsJust T.reading N (left_of self.old) result }
+        ensures reads { HoldsJust T.reading N (left_of self.old) result }
+        ensures takes { TakenUpto (left_of self.old) result (left_of self.new) }
     {
         // Not an `ArrayVec<T, N>`: that its size fits could be said only by a `requires`.
         let mut values = [T::default(); N];

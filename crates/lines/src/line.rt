@@ -36,7 +36,7 @@ impl Line {
         self.bytes.clear();
     }
 
-    // No byte is kept, so none has come.
+    // Whether no byte is kept, so that none has come.
     pub fn is_empty(&self) -> bool
         ensures { result ≡ (length (kept self.now) == 0) }
     {

@@ -1,6 +1,6 @@
 // Fields as decimal numbers and as hexadecimal words.
 ghost use Rattle.std.specs.Prelude.{◌≡◌, ℕ, ◌^◌, ◌<◌, ◌≤◌, List, Option, None, length, IfSome};
-ghost use Rattle.lines.specs.Digits.{digit, digits_after};
+ghost use Rattle.lines.specs.Digits.{digit, digits_value};
 ghost use Rattle.lines.specs.Decimal.{natural, number};
 ghost use Rattle.lines.specs.Hex.{word};
 ghost use Rattle.lines.specs.Lengths.{number_long, word_long};
@@ -73,7 +73,7 @@ fn digits_in(text: &[u8], base: u32) -> Option<u64>
     requires few { length text.now ≤ 10 }
     requires some { 2 ≤ base }
     requires small { base ≤ 16 }
-    ensures value { result ≡ digits_after base 0 text.now }
+    ensures value { result ≡ digits_value base text.now }
     ensures bound { IfSome result (λ n. n < base ^ length text.now) }
 {
     // A `try_fold` would check each step for an overflow that the bounds rule out, and be no shorter.

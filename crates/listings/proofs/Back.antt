@@ -12,7 +12,8 @@ use Rattle.bounds.specs.Range.{Part, Sound}
 use Rattle.bounds.specs.Making.{row_of}
 use Rattle.bounds.specs.Text.{row_text}
 use Rattle.lines.specs.Decimal.{number}
-use Rattle.lines.specs.Digits.{digit, digits_after}
+use Rattle.lines.specs.Digits.{digit}
+use Rattle.lines.proofs.Digits.{digits_after, digits_from_zero}
 use Rattle.lines.specs.Fields.{fields}
 use Rattle.lines.specs.Hex.{word}
 use Rattle.lines.specs.Reading.{readings}
@@ -53,7 +54,7 @@ hex_writes w h =
     let none : 0 ≡ w / 16 ^ 8 = omega arith in
     record {
       solid = low_solid 8 w;
-      value = ap (λ n. digits_after 16 n (hex_digits 8 w)) none ∙ low_value 8 w;
+      value = sym (digits_from_zero 16 (hex_digits 8 w)) ∙ (ap (λ n. digits_after 16 n (hex_digits 8 w)) none ∙ low_value 8 w);
     }
 
 -- a line that begins with a word is no note

@@ -1,5 +1,6 @@
 -- A word's eight digits are what `{:08X}` prints of it. Assumes nothing.
-use Rattle.std.proofs.Common.{◌≡◌, ℕ, zero, suc, ◌+◌, ◌-◌, ◌*◌, ◌/◌, ◌%◌, ◌^◌, ◌<◌, List, [], ◌∷◌, ◌++◌, length, replicate, true, false, nat_eq, sym, refl, ap, subst, ◌∙◌, append_assoc, append-nil, pow-suc, arith}
+use Rattle.std.proofs.Common.{◌≡◌, ℕ, zero, suc, ◌+◌, ◌-◌, ◌*◌, ◌/◌, ◌%◌, ◌^◌, ◌<◌, List, [], ◌∷◌, ◌++◌, length, replicate, true, false, nat_eq, sym, refl, ap}
+use Rattle.std.proofs.Common.{subst, ◌∙◌, append_assoc, append-nil, pow-suc, arith}
 use native.Mathlib.Nat.{div-div-eq-div-mul, zero-div}
 use Rattle.std.proofs.lemmas.Bool.Decides.{nat_tests}
 use Rattle.std.specs.Fmt.{digits, digits_onto, digit_glyph, char_count, padded_integral, format_spec}

@@ -36,9 +36,9 @@ BoundRead ws (Err (Word k)) = BreaksAt ws k
 
 -- the same answer, where the first of the three words is at this place
 abbrev pub RowRead : ℕ → List ℕ → Result Bound WordFault → Type 0
-RowRead first ws (Ok b) = row_words (row_of b) ≡ ws
+RowRead first ws (Ok b) = BoundRead ws (Ok b)
 RowRead first ws (Err (Length n)) = ⊥
-RowRead first ws (Err (Word p)) = (k : ℕ) × (p ≡ first + k) × BreaksAt ws k
+RowRead first ws (Err (Word p)) = (k : ℕ) × (p ≡ first + k) × BoundRead ws (Err (Word k))
 
 -- the words hold just these rows: they begin with the rows' writing, and then comes no word or a zero head
 pub record Holds (rows : List Row) (ws : List ℕ) : Type 0 where

@@ -15,7 +15,7 @@ use std::fmt;
 #[derive(Clone, Copy, PartialEq, Eq, Debug)]
 pub struct BoundWords(pub [u32; 3]);
 
-// The law says that rows of words have one writing and one reading.
+// The three words of a bound. The law of house words stands in this contract: rows have one writing, words one reading, a buffer one answer.
 impl From<Bound> for BoundWords {
     ghost from_gives = { λ b w. w.0 ≡ row_words (row_of b) };
 
@@ -44,7 +44,7 @@ pub(crate) fn read_row(first: u64, words: BoundWords) -> Result<Bound, WordFault
     Ok(Bound::try_from(Row { left, right, t, s }).unwrap())
 }
 
-// The bound of three words, or the first of them that breaks the row.
+// The bound of three words; or the first of them that breaks the row, which is fault 13 at its place, from 0.
 impl TryFrom<BoundWords> for Bound {
     type Error = WordFault;
 

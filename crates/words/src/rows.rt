@@ -29,7 +29,8 @@ fn count_rows(words: &[u32]) -> Result<usize, WordFault>
     Ok(rows)
 }
 
-// The check of a buffer: how many rows it holds before its end or a zero head, or why it is refused.
+// How many rows a buffer holds before a zero head or its end, or before its 65,536th row; or fault 13: at the length, where that
+// is no multiple of three, and else at the first word that breaks its row.
 pub fn check(words: &[u32]) -> Result<usize, WordFault>
     ensures { Checked words.now result }
 {
@@ -41,7 +42,7 @@ pub fn check(words: &[u32]) -> Result<usize, WordFault>
     count_rows(&words[..words.len().min(WORDS)])
 }
 
-// Writes a bound, checks its words as a buffer of one row, and reads them back: the bound itself, by the law.
+// Writes a bound, checks its words as a buffer of one row, and reads them back: always the bound itself, by the law.
 pub fn round_trip(bound: Bound) -> Result<Bound, WordFault>
     ensures { MatchResult result (λ back. row_of back ≡ row_of bound) (λ _. ⊥) }
 {

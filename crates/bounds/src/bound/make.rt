@@ -33,7 +33,7 @@ fn part(x: i64) -> Option<i32>
 }
 
 impl Bound {
-    // The bound of four numbers, or the first of them that is out of range.
+    // The bound of four numbers; or the first of them that is out of range, which is fault 7 at its place, from 1.
     pub fn new(left: i64, right: i64, t: i64, s: i64) -> Result<Bound, BoundFault>
         ensures { Made left right t s result }
     {
@@ -55,7 +55,7 @@ impl Bound {
     }
 }
 
-// The bound that a table's row stands for, or the first of its numbers that is out of range.
+// The bound that a table's row stands for; or the first of its numbers that is out of range, as `Bound::new` refuses it.
 impl TryFrom<Row> for Bound {
     type Error = BoundFault;
 

@@ -1,8 +1,7 @@
 use Rattle.std.proofs.Common.{None, Some, sym, refl, ◌∙◌, arith, rules}
 use native.Mathlib.Nat.{pow-zero}
 use Rattle.std.proofs.lemmas.List.{at_drop_all}
-use Rattle.lines.specs.Digits.{digits_after}
-use Rattle.lines.proofs.Digits.{digit_next, digit_below, next_fits}
+use Rattle.lines.proofs.Digits.{digits_after, digits_from_zero, digit_next, digit_below, next_fits}
 use Rattle.lines.proofs.number.digits_in.Goals as goal
 
 pub loop-b-init : goal.loop-b-init
@@ -15,7 +14,8 @@ returns-in_err-d-clause-value c =
     let i = c.loop-b.b-index in
     let text = c.args.text.now in
     c.from_residual.ensures
-    ∙ (sym (digit_next base n i text None c.loop-b-test.true (sym c.in_err-d.was ∙ c.digit_in.ensures.value)) ∙ c.loop-b.invariant.0)
+    ∙ (sym (digit_next base n i text None c.loop-b-test.true (sym c.in_err-d.was ∙ c.digit_in.ensures.value))
+    ∙ (c.loop-b.invariant.0 ∙ digits_from_zero base text))
 
 pub overflow_mul-n : goal.overflow_mul-n
 overflow_mul-n c =
@@ -41,7 +41,7 @@ loop-b-preserved c =
 
 pub returns : goal.returns
 returns c = record {
-  value = sym (sym c.loop-b.invariant.0
+  value = sym (sym (c.loop-b.invariant.0 ∙ digits_from_zero c.args.base c.args.text.now)
       ∙ at_drop_all (digits_after c.args.base c.loop-b.n) c.args.text.now c.loop-b.b-index c.loop-b-test.false);
   bound = search rules;
 }

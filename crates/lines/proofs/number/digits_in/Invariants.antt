@@ -1,5 +1,5 @@
 use Rattle.std.proofs.Common.{◌≡◌, ◌^◌, ◌<◌, drop}
-use Rattle.lines.specs.Digits.{digits_after}
+use Rattle.lines.proofs.Digits.{digits_after}
 use Rattle.lines.proofs.number.digits_in.Given as goal
 
 -- what is left goes on from n as the whole from 0, and n is as small as its digits say
