@@ -7,6 +7,7 @@ use Rattle.books.specs.Calls.{Went}
 use Rattle.books.specs.Lent.{rows_in, ended, row_put}
 use Rattle.books.specs.declared.lent.WordBook.{WordBook}
 
+-- the rows that its counts find in its words
 abbrev pub meaning_of : WordBook → Meaning
 meaning_of w = rows_in w.words.now w.counts
 

@@ -1,3 +1,4 @@
+// The tasks of the word tool, and its counts of lines.
 ghost use Rattle.std.specs.Prelude.{◌≡◌, Some};
 ghost use Rattle.listings.specs.Counts.{counted};
 ghost use Rattle.listings.specs.Tasks.{Names, unknown_text};
