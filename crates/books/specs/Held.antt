@@ -1,4 +1,4 @@
--- What a word book means, from its words and its counts, what its calls write, and that its words stay house words. Assumes nothing.
+-- Of a word book as a whole: what it means, which words its accepted calls leave, and that its words stay those of its bounds. Assumes nothing.
 use Rattle.std.specs.Prelude.{◌≡◌, ℕ, ◌+◌, List, length, take, drop, Ok}
 use Rattle.bounds.specs.declared.row.Row.{Row}
 use Rattle.words.specs.Reading.{Holds, Checked}

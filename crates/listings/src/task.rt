@@ -34,7 +34,8 @@ impl fmt::Display for UnknownTask {
 
 impl Error for UnknownTask {}
 
-// The task that a word names. No word names the round trip, which is what is done where none is given.
+// The task that a word names, `write` or `read`; any other word is refused, with no fault number. No word names the round trip, which is
+// what is done where none is given.
 impl FromStr for Task {
     type Err = UnknownTask;
 
