@@ -1,4 +1,5 @@
--- The row that three words say, and the rows in a list of words. Assumes nothing.
+-- The row that three words say, and the rows in a list of words. A book's meaning is a function of what it has, so its rows are taken out of
+-- its words here; what words mean is told by the writing alone, to which `OfBound` ties each row. Assumes nothing.
 use Rattle.std.specs.Prelude.{◌≡◌, ℕ, ◌-◌, ◌*◌, ◌/◌, ◌%◌, ◌^◌, ◌<◌, cond, List, map, take, drop, ℤ, pos, negsuc, nat_lt, slice_index}
 use Rattle.std.specs.List.{range_with_len}
 use Rattle.bounds.specs.declared.row.Row.{Row}

@@ -1,4 +1,4 @@
--- What a word book means, from its words and its counts, what its calls write, and that its words stay house words. Assumes nothing.
+-- Of a word book as a whole: what it means, which words its accepted calls leave, and that its words stay those of its bounds. Assumes nothing.
 use Rattle.std.specs.Prelude.{◌≡◌, ℕ, ◌+◌, List, length, take, drop, Ok}
 use Rattle.bounds.specs.declared.row.Row.{Row}
 use Rattle.words.specs.Reading.{Holds, Checked}
@@ -7,6 +7,7 @@ use Rattle.books.specs.Calls.{Went}
 use Rattle.books.specs.Lent.{rows_in, ended, row_put}
 use Rattle.books.specs.declared.lent.WordBook.{WordBook}
 
+-- the rows that its counts find in its words
 abbrev pub meaning_of : WordBook → Meaning
 meaning_of w = rows_in w.words.now w.counts
 

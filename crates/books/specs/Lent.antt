@@ -1,4 +1,4 @@
--- A book over lent words: what it means, and what its calls write. Assumes nothing.
+-- Lent words, by counts of their rows: what they mean, as what a book over them opens, and how rows and zero heads are written. Assumes nothing.
 use Rattle.std.specs.Prelude.{◌≡◌, ℕ, ◌+◌, ◌-◌, ◌*◌, ◌/◌, ◌≤◌, min, cond, List, [], ◌∷◌, ◌++◌, length, take, drop, Ok, Err, Result, nat_lt}
 use Rattle.bounds.specs.declared.row.Row.{Row}
 use Rattle.words.specs.declared.fault.WordFault.{WordFault}

@@ -1,4 +1,4 @@
--- The rows that a table lists. Assumes nothing.
+-- The rows that an inner table lists, as a list. Assumes nothing.
 use Rattle.std.specs.Prelude.{ℕ, List}
 use Rattle.bounds.specs.declared.row.Row.{Row}
 use Rattle.books.specs.declared.rows.Rows.{Rows}

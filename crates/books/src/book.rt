@@ -22,16 +22,19 @@ pub trait Book {
 
     ghost cuts: { Self → ℕ → Self → Type 0 };
 
+    // How many bounds are fixed.
     fn fixed_count(&self) -> usize
         ensures { result ≡ length (meaning self.now).fixed };
 
+    // How many bounds are added.
     fn added_count(&self) -> usize
         ensures { result ≡ length (meaning self.now).added };
 
+    // How many places are free.
     fn free_count(&self) -> usize
         ensures { result ≡ (meaning self.now).free };
 
-    // How many bounds there are, fixed and added.
+    // How many bounds there are, fixed and added together.
     fn count(&self) -> usize
         ensures { result ≡ length (bounds_of (meaning self.now)) }
     {
@@ -42,14 +45,14 @@ pub trait Book {
     fn read(&self, i: usize) -> Option<Bound>
         ensures { Reads (meaning self.now) i result };
 
-    // Puts a bound at the end of the added list, which takes one place; or is refused exactly when none is free, and then
-    // nothing changes.
+    // Puts a bound at the end of the added list, which takes one place; or is refused with fault 9, place 0, exactly when none is
+    // free, and then nothing changes.
     fn add(&mut self, bound: Bound) -> Result<(), BookFault>
         ensures { Adding meaning adds self.old (row_of bound) self.new result };
 
     // Keeps the first `k` added bounds and frees the places of the others: yes; or no exactly when there are fewer than `k`,
-    // and then nothing changes. A yes or no, as a set of the library
-    // answers `insert`: a caller can see beforehand that there are fewer, and nothing is given back.
+    // and then nothing changes. A yes or no, as a set of the library answers `insert`: a caller can see beforehand that there are
+    // fewer, and nothing is given back.
     fn cut(&mut self, k: usize) -> bool
         ensures { Cutting meaning cuts self.old k self.new result };
 

@@ -7,8 +7,8 @@ use crate::book::Book;
 use crate::fault::BookFault;
 use bounds::Bound;
 
-// Adds the bounds in their order, all of them or none: it is refused exactly when fewer places are free than there are bounds,
-// and then nothing changes.
+// Adds the bounds in their order, all of them or none: it is refused with fault 9, place 0, exactly when fewer places are free than
+// there are bounds, and then nothing changes.
 pub fn add_all<B: Book>(book: &mut B, bounds: &[Bound]) -> Result<(), BookFault>
     ensures { AddingAll B.meaning B.adds book.old (map row_of bounds.now) book.new result }
 {

@@ -1,3 +1,4 @@
+// The fault of a book: its number, layer and place, and its words.
 ghost use Rattle.std.specs.Prelude.{◌≡◌, Some};
 ghost use Rattle.books.specs.Faults.{fault_of, reason_of};
 

@@ -1,3 +1,4 @@
+// The word book, over words that the caller lends.
 ghost use Rattle.std.specs.Prelude.{◌≡◌, ◌+◌, ◌*◌, ◌<◌, ◌≤◌, length};
 ghost use Rattle.bounds.specs.Making.{row_of};
 ghost use Rattle.books.specs.Decoding.{OfBound, taken_apart};

@@ -1,3 +1,4 @@
+// The table: a book that keeps its own rows.
 ghost use Rattle.std.specs.Prelude.{◌≡◌, ◌≤◌, [], length};
 ghost use Rattle.std.specs.List.{All};
 ghost use Rattle.bounds.specs.Range.{Sound};

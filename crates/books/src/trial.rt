@@ -1,3 +1,4 @@
+// The trial: a book laid over another.
 ghost use Rattle.std.specs.Prelude.{◌≡◌, ◌≤◌, [], length};
 ghost use Rattle.std.specs.List.{All};
 ghost use Rattle.bounds.specs.Range.{Sound};
@@ -23,7 +24,7 @@ pub struct Trial<B: Book> {
 }
 
 impl<B: Book> Trial<B> {
-    // A trial over a book, with nothing added yet. Whatever calls it then goes through, the book below stays the same.
+    // A trial over a book, with nothing added yet. Whatever calls it then goes through, the book below stays the same. It never refuses.
     pub fn lay(below: B) -> Trial<B>
         ensures below { result.below ≡ below }
         ensures empty { ⟦<Trial<B> as Book>⟧.meaning result ≡ trial_over (B.meaning below) [] }

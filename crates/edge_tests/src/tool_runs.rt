@@ -73,7 +73,14 @@ fn refused_numbers(rt: HostRuntime) -> Result<(), Fail> {
         rt.alloc(),
         Task::RoundTrip,
         b"4096 0 0 0\n0 -1 0 0\n0 0 500000001 0\n0 0 0 -500000001\n0 1 2\n0 1 2 3 4\n0  1 2 3",
-        "line 1 refused: the left point is not from 0 to 4095 (fault 7, layer D, place 1)\nline 2 refused: the right point is not from 0 to 4095 (fault 7, layer D, place 2)\nline 3 refused: t is not from -500000000 to 500000000 (fault 7, layer D, place 3)\nline 4 refused: s is not from -500000000 to 500000000 (fault 7, layer D, place 4)\nline 5 refused: a field is missing, unreadable or extra (fault 12, layer L, place 4)\nline 6 refused: a field is missing, unreadable or extra (fault 12, layer L, place 5)\nline 7 refused: a field is missing, unreadable or extra (fault 12, layer L, place 2)\n# lines read: 7, bounds written and read back: 0, notes: 0, refused: 7. The listing did not come back whole.\n",
+        "line 1 refused: the left point is not from 0 to 4095 (fault 7, layer D, place 1)\n\
+         line 2 refused: the right point is not from 0 to 4095 (fault 7, layer D, place 2)\n\
+         line 3 refused: t is not from -500000000 to 500000000 (fault 7, layer D, place 3)\n\
+         line 4 refused: s is not from -500000000 to 500000000 (fault 7, layer D, place 4)\n\
+         line 5 refused: a field is missing, unreadable or extra (fault 12, layer L, place 4)\n\
+         line 6 refused: a field is missing, unreadable or extra (fault 12, layer L, place 5)\n\
+         line 7 refused: a field is missing, unreadable or extra (fault 12, layer L, place 2)\n\
+         # lines read: 7, bounds written and read back: 0, notes: 0, refused: 7. The listing did not come back whole.\n",
     )
 }
 
@@ -84,7 +91,11 @@ fn refused_words(rt: HostRuntime) -> Result<(), Fail> {
         rt.alloc(),
         Task::Read,
         b"00000000 BFFFFFEC C0000000\n40000001 9DCD6501 C0000000\n40000001 BFFFFFEC\n0 1 -20 0\n",
-        "line 1 refused: the word breaks its row (fault 13, layer B, place 0)\nline 2 refused: the word breaks its row (fault 13, layer B, place 1)\nline 3 refused: a field is missing, unreadable or extra (fault 12, layer L, place 3)\nline 4 refused: a field is missing, unreadable or extra (fault 12, layer L, place 1)\n# lines read: 4, bounds read: 0, notes: 0, refused: 4\n",
+        "line 1 refused: the word breaks its row (fault 13, layer B, place 0)\n\
+         line 2 refused: the word breaks its row (fault 13, layer B, place 1)\n\
+         line 3 refused: a field is missing, unreadable or extra (fault 12, layer L, place 3)\n\
+         line 4 refused: a field is missing, unreadable or extra (fault 12, layer L, place 1)\n\
+         # lines read: 4, bounds read: 0, notes: 0, refused: 4\n",
     )
 }
 
@@ -108,7 +119,9 @@ fn long_lines(rt: HostRuntime) -> Result<(), Fail> {
     let ending = run(heap, Task::Write, input.as_slice())?;
     assert_eq!(rt;
         ending.text.as_str(),
-        "line 1 refused: a field is missing, unreadable or extra (fault 12, layer L, place 4)\nline 2 refused: a field is missing, unreadable or extra (fault 12, layer L, place 5)\n# lines read: 3, bounds written: 0, notes: 1, refused: 2\n"
+        "line 1 refused: a field is missing, unreadable or extra (fault 12, layer L, place 4)\n\
+         line 2 refused: a field is missing, unreadable or extra (fault 12, layer L, place 5)\n\
+         # lines read: 3, bounds written: 0, notes: 1, refused: 2\n"
     );
     assert_eq!(rt; ending.tally.refused, 2);
     Ok(())

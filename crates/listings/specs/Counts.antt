@@ -8,6 +8,7 @@ use Rattle.listings.specs.declared.task.Tally.{Tally}
 abbrev pub up : ℕ → ℕ
 up n = min (n + 1) (2 ^ 64 - 1)
 
+-- no line is read yet
 abbrev pub none_yet : Tally
 none_yet = record { lines = 0; bounds = 0; notes = 0; refused = 0 }
 

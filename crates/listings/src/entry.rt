@@ -16,7 +16,8 @@ pub enum Entry {
     Refused(ListingFault),
 }
 
-// The bound of a line of four decimal numbers, or why it has none.
+// The bound of a line of four decimal numbers; or fault 12 with the first field that is missing, bad or extra, counted from 1; or else
+// fault 7 with the first number that is out of range: 1 left, 2 right, 3 t, 4 s.
 pub fn bound_line(line: &[u8]) -> Result<Bound, ListingFault>
     ensures { BoundLine line.now result }
 {
@@ -24,7 +25,8 @@ pub fn bound_line(line: &[u8]) -> Result<Bound, ListingFault>
     Ok(Bound::new(left, right, t, s)?)
 }
 
-// The bound of a line of three words, or why it has none.
+// The bound of a line of three words; or fault 12 with the first field that is missing, bad or extra, counted from 1; or else fault 13
+// with the first word that breaks the row, counted from 0.
 pub fn words_line(line: &[u8]) -> Result<Bound, ListingFault>
     ensures { WordsLine line.now result }
 {
@@ -56,7 +58,7 @@ fn is_note(line: &[u8]) -> bool
     line.first() == Some(&b'#')
 }
 
-// What a line holds for the task.
+// What a line holds for the task: a note where it begins with `#`; else the bound of the form that the task reads, or its refusal.
 pub fn entry_of(task: Task, line: &[u8]) -> Entry
     ensures { EntryOf task line.now result }
 {

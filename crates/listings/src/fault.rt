@@ -1,3 +1,4 @@
+// Why a line of a listing holds no bound.
 ghost use Rattle.std.specs.Prelude.{◌≡◌, Some};
 ghost use Rattle.listings.specs.Faults.{of_line, of_bound, of_word, fault_of, reason_of};
 

@@ -1,3 +1,4 @@
+// The tasks of the word tool, and its counts of lines.
 ghost use Rattle.std.specs.Prelude.{◌≡◌, Some};
 ghost use Rattle.listings.specs.Counts.{counted};
 ghost use Rattle.listings.specs.Tasks.{Names, unknown_text};
@@ -33,7 +34,8 @@ impl fmt::Display for UnknownTask {
 
 impl Error for UnknownTask {}
 
-// The task that a word names. No word names the round trip, which is what is done where none is given.
+// The task that a word names, `write` or `read`; any other word is refused, with no fault number. No word names the round trip, which is
+// what is done where none is given.
 impl FromStr for Task {
     type Err = UnknownTask;
 

@@ -33,6 +33,7 @@ fn refusal_text(heap: Global, number: u64, fault: ListingFault) -> Result<String
     format!(in heap; "line {number} refused: {fault} ({told})\n")
 }
 
+// The text of `entry_text`, which apart from this owes the promise that what is printed is read back.
 fn printed(heap: Global, task: Task, number: u64, entry: Entry) -> Result<String, AllocError>
     ensures { IfOk result (λ x. string_bytes x ≡ text_of_entry task number entry) }
 {
@@ -43,7 +44,8 @@ fn printed(heap: Global, task: Task, number: u64, entry: Entry) -> Result<String
     }
 }
 
-// What the task prints for the line with this number: nothing for a note. What is printed for a bound is read as that bound.
+// What the task prints for the line with this number: nothing for a note. Words and numbers that are printed for a bound are read as
+// that bound. Refused only where memory fails.
 pub fn entry_text(heap: Global, task: Task, number: u64, entry: Entry) -> Result<String, AllocError>
     ensures value { IfOk result (λ x. string_bytes x ≡ text_of_entry task number entry) }
     ensures back { TextReturns }
@@ -77,7 +79,8 @@ fn verdict(task: Task, refused: u64) -> &'static str
     }
 }
 
-// The last line, which says how many lines were read and how many refused.
+// The last line, the summary: how many lines were read, and how many of them were bounds, notes and refused. Refused only where memory
+// fails.
 pub fn summary_text(heap: Global, task: Task, tally: Tally) -> Result<String, AllocError>
     ensures { IfOk result (λ x. string_bytes x ≡ text_of_summary task tally) }
 {

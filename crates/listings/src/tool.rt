@@ -1,5 +1,5 @@
 // The tool: input comes in pieces of any size, and what is printed depends on their bytes alone.
-ghost use Rattle.std.specs.Prelude.{◌≡◌, ℕ, List, [], ◌∷◌, ◌++◌, IfOk, string_bytes, ◌==◌, ◌≢◌};
+ghost use Rattle.std.specs.Prelude.{◌≡◌, [], ◌∷◌, IfOk, string_bytes, ◌==◌, ◌≢◌};
 ghost use Rattle.lines.specs.Kept.{kept};
 ghost use Rattle.listings.specs.Sessions.{Prints, Tells};
 ghost use Rattle.listings.specs.Tools.{Follows, EndsWith, Fresh, Law};
@@ -74,8 +74,8 @@ impl Tool {
         }
     }
 
-    // The next piece of the input, and what is printed for the lines that it ends. Where memory fails, nothing is promised of
-    // the tool, which is then of no more use.
+    // The next piece of the input, and what is printed for the lines that it ends. Refused only where memory fails; then nothing is
+    // promised of the tool, which is of no more use.
     pub fn feed(&mut self, heap: Global, piece: &[u8]) -> Result<String, AllocError>
         ensures { IfOk result (λ x. Follows self.old piece.now (string_bytes x) self.new) }
     {
@@ -101,7 +101,8 @@ impl Tool {
         }
     }
 
-    // The input ends: what is printed for a line that no line feed ended, and the last line.
+    // The input ends: what is printed for a line that no line feed ended, then the summary, and the counts. Refused only where memory
+    // fails.
     pub fn finish(mut self, heap: Global) -> Result<Ending, AllocError>
         ensures { IfOk result (λ e. EndsWith self (string_bytes e.text) e.tally) }
     {
@@ -115,7 +116,7 @@ impl Tool {
     }
 }
 
-// The tool on a whole input.
+// What the tool prints for a whole input, and its counts. Refused only where memory fails.
 pub fn run(heap: Global, task: Task, input: &[u8]) -> Result<Ending, AllocError>
     ensures { IfOk result (λ e. Prints task input.now (string_bytes e.text) e.tally) }
 {

@@ -14,7 +14,7 @@ pub held_met : {k : Kind} (edges : Bounds k) (t : ℕ → Exact k) → Solution 
 held_met {k} edges t s row held = All-weaker (Contains edges) (Meets k t) (λ b. All-contains (Meets k t) edges b s.meets) row held
 
 module _ {k : Kind} (laws : Lawful k) where
-  -- All bound lets the time of its left point exceed that of its right point by its delay at most; along a walk these add up.
+  -- Each bound lets the time of its left point exceed that of its right point by its delay at most; along a walk these add up.
   along : (t : ℕ → Exact k) (row : Bounds k) (p q : ℕ) → Walk p row q → All (Meets k t) row → Le k (t p) (k.sum (t q) (sum_of k row))
   along t [] p q e met = rw (e, laws.zero_adds_nothing (t q)) (laws.reflexive (t q))
   along t (b ∷ bs) p q w met =

@@ -1,5 +1,5 @@
 -- What edges and lists of times mean, and which edge a number or a link stands for. Assumes nothing.
-use Rattle.std.specs.Prelude.{ℕ, ◌≤◌, List, map, length, Some, None, Option, slice_index_or}
+use Rattle.std.specs.Prelude.{ℕ, ◌≤◌, List, [], ◌∷◌, map, length, Some, None, Option, slice_index_or}
 use Rattle.delays.specs.Kind.{Kind, Exact}
 use Rattle.network.specs.declared.edge.Edge.{Edge}
 use Rattle.network.specs.declared.link.Link.{Link}
@@ -25,5 +25,5 @@ module _ {X : Type 0} (k : Kind) (means : X → Exact k) where
 
   -- the edge that the link names, or nothing where it names none
   abbrev pub LinkRead : List (Edge X) → Edge X → Link → Option (Edge X) → Type 0
-  LinkRead book posted l None = (b : ExactBound k) → Names k (bounds_of book) (bound_of posted) l b → ⊥
-  LinkRead book posted l (Some e) = Names k (bounds_of book) (bound_of posted) l (bound_of e)
+  LinkRead book posted l None = (b : ExactBound k) → Names k (bounds_of book) (bound_of posted ∷ []) l b → ⊥
+  LinkRead book posted l (Some e) = Names k (bounds_of book) (bound_of posted ∷ []) l (bound_of e)

@@ -1,5 +1,5 @@
 -- The bounds of a chain by name, and their words. What a word is read as is told by the writing alone. Assumes nothing.
-use Rattle.std.specs.Prelude.{◌≡◌, ℕ, ◌+◌, ◌*◌, ◌^◌, ◌<◌, ◌≤◌, Ok, Err, Result}
+use Rattle.std.specs.Prelude.{◌≡◌, ℕ, ◌+◌, ◌*◌, ◌^◌, ◌<◌, ◌≤◌, [], ◌∷◌, Ok, Err, Result}
 use Rattle.delays.specs.Kind.{Kind}
 use Rattle.network.specs.Bounds.{ExactBound, Bounds, Numbered, floor_of}
 use Rattle.network.specs.declared.link.Link.{Link}
@@ -32,11 +32,11 @@ abbrev pub LinkOf : {E : Type 0} → ℕ → Result Link E → Type 0
 LinkOf w (Ok l) = HasWord l w
 LinkOf w (Err e) = (l : Link) → HasWord l w → ⊥
 
--- the bound that the link names, where the book holds these bounds and one was posted to it
-abbrev pub Names : (k : Kind) → Bounds k → ExactBound k → Link → ExactBound k → Type 0
+-- the bound that the link names, over the bounds of the book and the one that was posted, a list of one or none
+abbrev pub Names : (k : Kind) → Bounds k → Bounds k → Link → ExactBound k → Type 0
 Names k book posted (Book number) b = Numbered book number b
 Names k book posted (Floor point) b = b ≡ floor_of k point
-Names k book posted Posted b = b ≡ posted
+Names k book posted Posted b = posted ≡ b ∷ []
 
 -- The theorems.
 

@@ -71,7 +71,7 @@ fn tagged(top: u32, low: u32) -> Result<u32, NoWord>
     }
 }
 
-// The word of a link. A link has one word, and a word one link.
+// The word of a link, or a refusal exactly when its number is 2^30 or more. A link has one word at most, and a word one link.
 impl TryFrom<Link> for u32 {
     type Error = NoWord;
 
@@ -79,8 +79,8 @@ impl TryFrom<Link> for u32 {
 
     fn try_from(link: Link) -> Result<u32, NoWord>
         ensures value { WordOf link result }
-        ensures word { OneWord }
-        ensures link { OneLink }
+        ensures one_word { OneWord }
+        ensures one_link { OneLink }
     {
         match link {
             Link::Book { number } => tagged(BOOK, number),
@@ -90,7 +90,7 @@ impl TryFrom<Link> for u32 {
     }
 }
 
-// The link that has a word.
+// The link that has the word, or a refusal exactly when none has it.
 impl TryFrom<u32> for Link {
     type Error = NoLink;
 

@@ -72,8 +72,9 @@ fn checked<D: Delay>(edges: &[Edge<D>], times: &[D]) -> Result<(), Mismatch>
     Ok(())
 }
 
-// Whether the times are an assignment that meets every edge, or why not. Points past the list are at zero. Edges that times meet hold
-// no chain, and edges that hold none are met by some times.
+// Whether the times are an assignment that meets every edge, each with its limit within the reach; or the first thing that is wrong:
+// point 0 is not at zero, or the number of the first edge that is not met or has its limit past the reach. Points past the list are at
+// zero. Edges that times meet hold no chain, and edges that hold none are met by some times.
 pub fn check_times<D: Delay>(edges: &[Edge<D>], times: &[D]) -> Result<(), Mismatch>
     ensures answer { TimesChecked D.kind D.means edges.now times.now result }
     ensures walks { WalkTheory D.kind }

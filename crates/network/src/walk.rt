@@ -9,8 +9,8 @@ ghost use Rattle.network.specs.Earliest.{EarliestTheory};
 use crate::edge::Edge;
 use delays::{Delay, total};
 
-// The sum of the delays of a row, or nothing where a sum on the way leaves the reach. That of at most 256 edges, none with a delay of a
-// size above the greatest, is always had.
+// The sum of the delays of a row, or nothing exactly when a sum on the way leaves the reach. That of at most 256 edges, none with a delay
+// of a size above the greatest, is always had.
 #[tactic(auto, using(crate::proofs::Checking::row_summed))]
 pub fn sum<D: Delay>(row: &[Edge<D>]) -> Option<D>
     ensures sums { RowSummed D.kind D.means row.now result }
