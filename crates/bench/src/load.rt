@@ -7,7 +7,7 @@ use words::BoundWords;
 // The most rows of a word book.
 const MOST: usize = 65_535;
 
-// The hidden times of all points but point 0, and the slacks of random bounds, are from this to twice this.
+// In milliseconds. The hidden times of all points but point 0, and the slacks of random bounds, are from this to twice this.
 const SPAN: u32 = 10_000_000;
 
 // The slack of the first hop, which no other way from point 0 falls below: so much each point of the path can still be moved.

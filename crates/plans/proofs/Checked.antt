@@ -7,7 +7,7 @@ use Rattle.delays.specs.Kind.{Kind, Unread}
 use Rattle.delays.specs.declared.fault.KindFault.{KindFault}
 use Rattle.delays.specs.declared.fault.KindFault.TheVariants.{Unread as unread}
 use Rattle.plans.specs.declared.fault.PlanFault.{PlanFault}
-use Rattle.plans.specs.declared.fault.PlanFault.TheVariants.{Unsettled, SettledAlready, Points, ListShort, Point, Kind as KindRefuses, Conflict, MarksFull, WrongSlip, Bound, Book}
+use Rattle.plans.specs.declared.fault.PlanFault.TheVariants.{SettledAlready, Points, ListShort, Point, Kind as KindRefuses, Conflict}
 use Rattle.plans.specs.Faults.{of_kind, fault_of}
 use Rattle.plans.specs.Rows.{moved_count}
 use Rattle.plans.specs.Misfits.{Misfit, RowsChecked}
@@ -24,17 +24,9 @@ no_number m same number other = other (sym number ∙ ap (λ f. (fault_of f).num
 
 -- the check of each bound refuses with no conflict
 misfit_no_conflict : (k : Kind) (n i : ℕ) (r : Row) (e : PlanFault) → Misfit k n i r e → (c : ℕ) → e ≢ Conflict c
-misfit_no_conflict k n i r (Conflict length) h c same = h
-misfit_no_conflict k n i r Unsettled h c same = h
-misfit_no_conflict k n i r SettledAlready h c same = h
-misfit_no_conflict k n i r Points h c same = h
-misfit_no_conflict k n i r ListShort h c same = h
-misfit_no_conflict k n i r MarksFull h c same = h
-misfit_no_conflict k n i r WrongSlip h c same = h
-misfit_no_conflict k n i r (Bound e) h c same = h
-misfit_no_conflict k n i r (Book e) h c same = h
 misfit_no_conflict k n i r (Point place) h c same = no_number 5 same refl (omega arith)
 misfit_no_conflict k n i r (KindRefuses unread place) h c same = no_number 6 same refl (omega arith)
+misfit_no_conflict k n i r fault h c same = h
 
 module _ (k : Kind) (s : State) {length : ℕ} where
   -- a settle that passes its checks is decided by whether there is a conflict
@@ -125,7 +117,8 @@ module _ (k : Kind) (s : State) (length : ℕ) (b : Row) where
   }
 
   -- the kind's fault is carried whole
-  pub pair_answered : (r : Result (Unit {0}) PlanFault) (f : KindFault) → IsErrAnd r (λ e. e ≡ of_kind f) → s.settled ≡ true → b.left < s.points → b.right < s.points
+  pub pair_answered : (r : Result (Unit {0}) PlanFault) (f : KindFault) → IsErrAnd r (λ e. e ≡ of_kind f) → s.settled ≡ true
+      → b.left < s.points → b.right < s.points
       → Unread k b.t b.s → MatchResult r (λ u. Tries k s (post length b) (rows s ++ b ∷ [])) (Refused k s (post length b))
   pair_answered (Ok u) f none on left right no_delay = absurd none
   pair_answered (Err e) unread is on left right no_delay = record {
@@ -136,7 +129,8 @@ module _ (k : Kind) (s : State) (length : ℕ) (b : Row) where
     no_conflict = λ c same. no_number 6 (sym is ∙ same) refl (λ never. omega (arith, never));
   }
 
-  pub list_refused : s.settled ≡ true → b.left < s.points → b.right < s.points → (Unread k b.t b.s → ⊥) → length < s.points → Refused k s (post length b) ListShort
+  pub list_refused : s.settled ≡ true → b.left < s.points → b.right < s.points → (Unread k b.t b.s → ⊥) → length < s.points
+      → Refused k s (post length b) ListShort
   list_refused on left right read short = record {
     step = inr (
       λ off. both_ways s.settled off on,

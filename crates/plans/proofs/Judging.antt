@@ -110,7 +110,8 @@ module _ {k : Kind} (laws : Lawful k) where
   post_judged : (t : State) (len : ℕ) (b : Row) → t.settled ≡ true → Fit k t.points b → t.points ≤ len → Solvable k t.points (rows t)
       → Gives t.points (rows t ++ b ∷ []) (Step k t (post len b))
   post_judged t len b on fit long now = let all = rows t ++ b ∷ [] in
-      pass all (λ off. both_ways t.settled off on) (pass all (λ l. inside t.points b fit.left fit.right (inl l)) (pass all (λ l. inside t.points b fit.left fit.right (inr l))
+      pass all (λ off. both_ways t.settled off on) (pass all (λ l. inside t.points b fit.left fit.right (inl l))
+      (pass all (λ l. inside t.points b fit.left fit.right (inr l))
       (pass all fit.read (pass all (λ l. omega arith) (cover_judged t b now (judged all _ (no_conflict t b)))))))
 
   -- a conflict exactly when no assignment meets the bounds in question

@@ -38,7 +38,8 @@ module _ {k : Kind} (laws : Lawful k) (n : ℕ) (rows : List Row) (x : ℕ → E
   }
 
 -- reading a point of a settled plan gives its earliest time
-pub read_step : {k : Kind} → Lawful k → {s : State} {x : ℕ → Exact k} {p : ℕ} → s.settled ≡ true → 0 < s.points → All (Fit k s.points) (rows s) → Least k s.points (rows s) x
+pub read_step : {k : Kind} → Lawful k → {s : State} {x : ℕ → Exact k} {p : ℕ} → s.settled ≡ true → 0 < s.points → All (Fit k s.points) (rows s)
+    → Least k s.points (rows s) x
     → p < s.points → (y : Exact k) → y ≡ x p → Step k s (read p) (time y) s
 read_step {k = k} laws {s = s} {x = x} {p = p} on some fit l h y e =
     inr (

@@ -5,7 +5,7 @@ use Rattle.bounds.specs.declared.row.Row.{Row}
 use Rattle.delays.specs.Kind.{Kind}
 use Rattle.delays.specs.declared.fault.KindFault.TheVariants.{Unread as unread}
 use Rattle.plans.specs.declared.fault.PlanFault.{PlanFault}
-use Rattle.plans.specs.declared.fault.PlanFault.TheVariants.{Unsettled, SettledAlready, Points, ListShort, Point, Kind as KindRefuses, Conflict, MarksFull, WrongSlip, Bound, Book}
+use Rattle.plans.specs.declared.fault.PlanFault.TheVariants.{Point, Kind as KindRefuses}
 use Rattle.plans.specs.Rows.{Fit, Outside}
 use Rattle.plans.specs.Misfits.{Misfit, FitBefore, RowsChecked}
 use Rattle.plans.specs.Answers.{Answer, refused}
@@ -30,15 +30,7 @@ module _ (k : Kind) (s : State) (next : Ending k) where
     refused_here (KindRefuses unread place) m i b bs f e h =
         let why = h.1 in
         inr (inside s.points b why.left why.right, inl (why.unread, (answer ∙ sym (ap refused f) ∙ ap (λ p. refused (KindRefuses unread p)) (h.0 ∙ e), same)))
-    refused_here Unsettled m i b bs f e h = absurd h
-    refused_here SettledAlready m i b bs f e h = absurd h
-    refused_here Points m i b bs f e h = absurd h
-    refused_here ListShort m i b bs f e h = absurd h
-    refused_here (Conflict length) m i b bs f e h = absurd h
-    refused_here MarksFull m i b bs f e h = absurd h
-    refused_here WrongSlip m i b bs f e h = absurd h
-    refused_here (Bound x) m i b bs f e h = absurd h
-    refused_here (Book x) m i b bs f e h = absurd h
+    refused_here other m i b bs f e h = absurd h
 
     each_misfit : (m i j : ℕ) (bs : List Row) → m ≡ i + j → FitBefore k s.points bs j (λ r. Misfit k s.points m r fault) → EachBound k s i bs next a t
     each_misfit m i j [] e h = absurd (let low = h.number in let never : ⊥ = omega arith in never)

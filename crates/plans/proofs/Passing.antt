@@ -1,9 +1,9 @@
 -- A pass over the rows of a book. Assumes nothing.
 use Rattle.std.proofs.Common.{◌≡◌, ℕ, ◌+◌, ◌<◌, length, get_or, take, Some, None, sym, subst}
-use Rattle.std.specs.List.{All, Contains}
+use Rattle.std.specs.List.{All}
 use Rattle.std.proofs.lemmas.Option.{slice_get_within, get_or_from_slice_get}
 use Rattle.std.proofs.lemmas.List.{take_all}
-use Rattle.std.proofs.lemmas.List.Elements.{All-more, Contains-get_or}
+use Rattle.std.proofs.lemmas.List.Elements.{All-more}
 use Rattle.bounds.specs.declared.row.Row.{Row}
 use Rattle.bounds.specs.declared.bound.Bound.{Bound}
 use Rattle.bounds.specs.Making.{row_of}
@@ -19,9 +19,6 @@ module _ (m : Meaning) (i : ℕ) where
 
     pub read_is : (d : Row) → get_or (bounds_of m) i d ≡ row_of b
     read_is d = get_or_from_slice_get (bounds_of m) i (row_of b) d (sym read)
-
-    pub read_holds : Contains (bounds_of m) (row_of b)
-    read_holds = subst (Contains (bounds_of m)) (read_is (row_of b)) (Contains-get_or (bounds_of m) i (row_of b) read_within)
 
     -- what is so of the rows before it, and of it, is so of one row more
     pub read_more : (P : Row → Type 0) → All P (take i (bounds_of m)) → P (row_of b) → All P (take (i + 1) (bounds_of m))

@@ -1,5 +1,6 @@
 -- What settle and post come to, once their checks are passed. Assumes nothing.
-use Rattle.std.proofs.Common.{◌≡◌, ◌≢◌, ℕ, ◌<◌, ◌≤◌, Bool, true, List, [], ◌∷◌, ◌++◌, length, Ok, Err, Result, refl, sym, ap, ◌∙◌, subst, inl, inr, arith, append-nil, append_assoc, length-append}
+use Rattle.std.proofs.Common.{◌≡◌, ◌≢◌, ℕ, ◌<◌, ◌≤◌, Bool, true, List, [], ◌∷◌, ◌++◌, length, Ok, Err, Result, refl, sym, ap, ◌∙◌, subst, inl, inr, arith}
+use Rattle.std.proofs.Common.{append-nil, append_assoc, length-append}
 use Rattle.std.specs.List.{All}
 use Rattle.std.specs.Result.{IsErrAnd}
 use Rattle.std.proofs.lemmas.Bool.{both_ways}
@@ -12,7 +13,7 @@ use Rattle.books.specs.Calls.{Adding}
 use Rattle.books.specs.declared.fault.BookFault.{BookFault}
 use Rattle.books.specs.declared.fault.BookFault.TheVariants.{Full}
 use Rattle.plans.specs.declared.fault.PlanFault.{PlanFault}
-use Rattle.plans.specs.declared.fault.PlanFault.TheVariants.{Unsettled, SettledAlready, Points, ListShort, Point, Kind as KindRefuses, Conflict, MarksFull, WrongSlip, Bound, Book}
+use Rattle.plans.specs.declared.fault.PlanFault.TheVariants.{Conflict}
 use Rattle.plans.specs.declared.posted.Posted.{Posted}
 use Rattle.plans.specs.Faults.{of_book}
 use Rattle.plans.specs.declared.label.Label.{Label}
@@ -32,7 +33,8 @@ use Rattle.plans.proofs.Checked.{settle_decided, post_decided}
 module _ (k : Kind) (s : State) {length : ℕ} {bounds : List Row} where
   -- a settle
   module _ (tries : Tries k s (settle length) bounds) where
-    pub settle_conflict : {before after : List ℕ} {c : ℕ} → ChainWritten k s.points (rows s) [] before after c → Step k s (settle length) (refused (Conflict c)) s
+    pub settle_conflict : {before after : List ℕ} {c : ℕ} → ChainWritten k s.points (rows s) [] before after c
+        → Step k s (settle length) (refused (Conflict c)) s
     settle_conflict {c = c} w =
         settle_decided k s tries (refused (Conflict c)) s
         (inl (w.row, rw (append-nil (rows s)) at w.chain, (ap (λ m. refused (Conflict m)) (sym w.count), refl)))
@@ -117,8 +119,8 @@ pub adding_full : {S : Type 0} (meaning : S → Meaning) (adds : S → Row → S
 adding_full meaning adds row U Full h = h
 
 -- a refusal by the book leaves it the very same
-pub same_book : {S : Type 0} (meaning : S → Meaning) (adds : S → Row → S → Type 0) {before after : S} (row : Row) (r : Result Posted PlanFault) (P : PlanFault → Type 0)
-    → IsErrAnd r P → after ≡ before → AddedOrSame meaning adds before row after r
+pub same_book : {S : Type 0} (meaning : S → Meaning) (adds : S → Row → S → Type 0) {before after : S} (row : Row) (r : Result Posted PlanFault)
+    (P : PlanFault → Type 0) → IsErrAnd r P → after ≡ before → AddedOrSame meaning adds before row after r
 same_book meaning adds row (Ok p) P none same = absurd none
 same_book meaning adds row (Err e) P is same = same
 
@@ -126,16 +128,7 @@ same_book meaning adds row (Err e) P is same = same
 pub same_list : (k : Kind) (n : ℕ) (book posted : List Row) (before after : List ℕ) (A : Type 0) (e : PlanFault) → ((c : ℕ) → e ≢ Conflict c) → after ≡ before
     → ChainOrSame {A = A} k n book posted before after (Err e)
 same_list k n book posted before after A (Conflict c) none same = absurd (none c refl)
-same_list k n book posted before after A Unsettled none same = same
-same_list k n book posted before after A SettledAlready none same = same
-same_list k n book posted before after A Points none same = same
-same_list k n book posted before after A ListShort none same = same
-same_list k n book posted before after A (Point place) none same = same
-same_list k n book posted before after A (KindRefuses e place) none same = same
-same_list k n book posted before after A MarksFull none same = same
-same_list k n book posted before after A WrongSlip none same = same
-same_list k n book posted before after A (Bound e) none same = same
-same_list k n book posted before after A (Book e) none same = same
+same_list k n book posted before after A e none same = same
 
 -- the fault of a check that refuses a post is its answer, and the list stays
 module _ {k : Kind} {s : State} {call : Call} (r : Result Posted PlanFault) (e : PlanFault) (is : IsErrAnd r (λ x. x ≡ e)) (h : Refused k s call e) where

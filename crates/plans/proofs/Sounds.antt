@@ -1,5 +1,6 @@
 -- What marks, and taking them away again, make of a sound plan. Assumes nothing.
-use Rattle.std.proofs.Common.{◌≡◌, ◌≢◌, ℕ, ◌+◌, ◌-◌, ◌≤◌, Bool, true, false, List, [], ◌∷◌, ◌++◌, length, take, get_or, slice_index, Option, Some, sym, refl, ap, ◌∙◌, subst, arith, length-append}
+use Rattle.std.proofs.Common.{◌≡◌, ◌≢◌, ℕ, ◌+◌, ◌-◌, ◌≤◌, Bool, true, false, List, [], ◌∷◌, ◌++◌, length, take, get_or, slice_index, Option, Some, sym, refl}
+use Rattle.std.proofs.Common.{ap, ◌∙◌, subst, arith, length-append}
 use Rattle.std.specs.List.{AllPairs}
 use Rattle.std.specs.Option.{option_to_list}
 use Rattle.std.proofs.Math.Seq.{take-append-add, take-append_seam, get_or-append_seam}
@@ -83,7 +84,8 @@ module _ {X : Type 0} {k : Kind} {means : X → Exact k} {book : Meaning} {n : �
   settled_restored : (m : Mark X) (back : List (Label X)) → ((p : ℕ) → label_time k means back p ≡ time_of_point k means m.times p)
       → Settled k means book n labels (rest ++ m ∷ []) → Settled k means (cut_to book m.added) n back rest
   settled_restored m back eq s =
-      let youngest : Restores k means book n m = rw (get_or-append_seam rest m [] m) at (s.restores (length rest) m (omega (arith, length-append rest (m ∷ [])))) in
+      let youngest : Restores k means book n m =
+      rw (get_or-append_seam rest m [] m) at (s.restores (length rest) m (omega (arith, length-append rest (m ∷ [])))) in
       let others = settled_popped (Some m) refl s in
       record {
         some = s.some;
@@ -93,7 +95,8 @@ module _ {X : Type 0} {k : Kind} {means : X → Exact k} {book : Meaning} {n : �
         restores = λ i d h.
             let at : Restores k means book n (get_or rest i d) = others.restores i d h in
             let under : (get_or rest i d).added ≤ m.added =
-            rw (get_or_append_left rest (m ∷ []) d i h, get_or-append_seam rest m [] d) at (s.rising i (length rest) d h (omega (arith, length-append rest (m ∷ [])))) in
+            rw (get_or_append_left rest (m ∷ []) d i h, get_or-append_seam rest m [] d)
+            at (s.rising i (length rest) d h (omega (arith, length-append rest (m ∷ [])))) in
             record {
               added = omega (arith, length-take-le m.added book.added youngest.added);
               least = rw (take-take (get_or rest i d).added m.added book.added under) at.least;
@@ -112,7 +115,8 @@ module _ {X : Type 0} {k : Kind} {means : X → Exact k} {book : Meaning} {n : �
       })
 
 -- the youngest mark is the one at the present depth: its count, and the counts of the others
-module _ {X : Type 0} {marks : List (Mark X)} (rest : List (Mark X)) (m : Mark X) (e : marks ≡ rest ++ m ∷ []) (d : ℕ) (present : d ≡ length (counts marks)) where
+module _ {X : Type 0} {marks : List (Mark X)} (rest : List (Mark X)) (m : Mark X) (e : marks ≡ rest ++ m ∷ []) (d : ℕ)
+    (present : d ≡ length (counts marks)) where
   depth_is : d - 1 ≡ length (counts rest)
   depth_is = omega (arith, present, ap length e, length-map marks (λ x. x.added), length-map rest (λ x. x.added), length-append rest (m ∷ []))
 

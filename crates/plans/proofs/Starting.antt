@@ -1,8 +1,10 @@
 -- Where rounds begin, and rows of labels that are written one by one. Assumes nothing.
-use Rattle.std.proofs.Common.{◌≡◌, ℕ, ◌+◌, ◌*◌, ◌<◌, ◌≤◌, ◌≢◌, true, List, [], ◌∷◌, ◌++◌, map, length, get_or, set, below_more, sym, ap, ◌∙◌, subst, ⊎_elim, mul-le-mul_right, arith}
+use Rattle.std.proofs.Common.{◌≡◌, ℕ, ◌+◌, ◌*◌, ◌<◌, ◌≤◌, ◌≢◌, true, List, [], ◌∷◌, ◌++◌, map, length, get_or, set, below_more, sym, ap, ◌∙◌, subst, ⊎_elim}
+use Rattle.std.proofs.Common.{mul-le-mul_right, arith}
 use Rattle.std.specs.List.{All, Contains}
 use Rattle.std.proofs.lemmas.List.{map_push, get_or-set_same, get_or-set_other, map-set, length-map, get_or_past}
-use Rattle.std.proofs.lemmas.List.Elements.{All-contains, All-weaker, All-push, Contains-get_or, Contains-append_left, Contains-append_right, Contains-append_cases}
+use Rattle.std.proofs.lemmas.List.Elements.{All-contains, All-weaker, All-push, Contains-get_or}
+use Rattle.std.proofs.lemmas.List.Elements.{Contains-append_left, Contains-append_right, Contains-append_cases}
 use Rattle.std.proofs.lemmas.Bool.{both_ways, cases_lt}
 use Rattle.delays.specs.Kind.{Kind, Exact, Lawful}
 use Rattle.network.specs.Bounds.{ExactBound, Bounds, floor_of, floors, bounds_in_force, Inside}
@@ -95,4 +97,5 @@ module _ {X : Type 0} {k : Kind} (laws : Lawful k) (means : X → Exact k) (n : 
       let inside_after =
       rw split at (edges_inside laws n (rows ++ r ∷ []) some (All-push (Fit k n) rows r fit fit_r) (All-push Sound rows r sound sound_r)) in
       rw split
-      (begun_posted laws means n labels (map (exact_of k) rows) (exact_of k r) x inside (λ p l. same p) inside_after times.solution.meets times.earliest near waits)
+      (begun_posted laws means n labels (map (exact_of k) rows) (exact_of k r) x inside (λ p l. same p) inside_after times.solution.meets
+      times.earliest near waits)

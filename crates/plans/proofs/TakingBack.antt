@@ -18,7 +18,8 @@ module _ {k : Kind} where
       let o = opens p in
       let c = shuts q in
       c.after ∙ go o.settled o.depth_is c.open_there
-      (enclosed_run inner (subst (λ (z : State). Run k z inner w) o.after r) (subst (λ (j : ℕ). Unmarked j inner) o.depth_is n) (inl (enclosed_first o.settled)))
+      (enclosed_run inner (subst (λ (z : State). Run k z inner w) o.after r) (subst (λ (j : ℕ). Unmarked j inner) o.depth_is n)
+      (inl (enclosed_first o.settled)))
     where
       go : s.settled ≡ true → d ≡ depth s + 1 → d ≤ depth w → Enclosed s w ⊎ (depth w < depth s + 1) → cutting (noted w d) (closing d w) ≡ s
       go f e g (inl i) = back_restores i f d e

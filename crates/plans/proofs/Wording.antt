@@ -1,5 +1,6 @@
 -- The words of bounds by number, and writing them. Assumes nothing.
-use Rattle.std.proofs.Common.{◌≡◌, ℕ, ◌+◌, ◌^◌, ◌<◌, ◌⊎◌, List, length, get_or, set, drop, sym, refl, ap, ◌∙◌, inl, inr, arith, get_or-set_other, get_or-set_same, Ok, Err, Result, drop-drop}
+use Rattle.std.proofs.Common.{◌≡◌, ℕ, ◌+◌, ◌^◌, ◌<◌, ◌⊎◌, List, length, get_or, set, drop, sym, refl, ap, ◌∙◌, inl, inr, arith, get_or-set_other}
+use Rattle.std.proofs.Common.{get_or-set_same, Ok, Err, Result, drop-drop}
 use Rattle.std.proofs.lemmas.Bool.{cases_eq}
 use Rattle.std.specs.Result.{IsOk}
 use Rattle.std.proofs.lemmas.List.{length-set, drop-set-lt}

@@ -3,7 +3,7 @@ use Rattle.std.specs.Prelude.{ℕ}
 use Rattle.bounds.specs.declared.row.Row.{Row}
 use Rattle.delays.specs.Kind.{Kind, Exact}
 use Rattle.plans.specs.declared.fault.PlanFault.{PlanFault}
-use Rattle.plans.specs.declared.fault.PlanFault.TheVariants.{Unsettled, SettledAlready, Points, ListShort, Point, Kind as KindRefuses, Conflict, MarksFull, WrongSlip, Bound, Book}
+use Rattle.plans.specs.declared.fault.PlanFault.TheVariants.{Conflict}
 
 -- a call on a plan that is open, with what its answer depends on besides the plan
 pub data Call : Type 0 where
@@ -34,17 +34,8 @@ pub data Answer (k : Kind) : Type 0 where
 
 -- the fault, chains aside: a conflict without the length of its chain
 abbrev pub fault_aside : PlanFault → PlanFault
-fault_aside Unsettled = Unsettled
-fault_aside SettledAlready = SettledAlready
-fault_aside Points = Points
-fault_aside ListShort = ListShort
-fault_aside (Point place) = Point place
-fault_aside (KindRefuses e place) = KindRefuses e place
 fault_aside (Conflict length) = Conflict 0
-fault_aside MarksFull = MarksFull
-fault_aside WrongSlip = WrongSlip
-fault_aside (Bound e) = Bound e
-fault_aside (Book e) = Book e
+fault_aside fault = fault
 
 -- the answer, chains aside
 abbrev pub aside : {k : Kind} → Answer k → Answer k

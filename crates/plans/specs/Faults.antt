@@ -9,7 +9,8 @@ use Rattle.delays.specs.Faults as delays
 use Rattle.books.specs.declared.fault.BookFault.{BookFault}
 use Rattle.books.specs.Faults as books
 use Rattle.plans.specs.declared.fault.PlanFault.{PlanFault}
-use Rattle.plans.specs.declared.fault.PlanFault.TheVariants.{Unsettled, SettledAlready, Points, ListShort, Point, Kind, Conflict, MarksFull, WrongSlip, Bound, Book}
+use Rattle.plans.specs.declared.fault.PlanFault.TheVariants.{Unsettled, SettledAlready, Points, ListShort, Point, Kind}
+use Rattle.plans.specs.declared.fault.PlanFault.TheVariants.{Conflict, MarksFull, WrongSlip, Bound, Book}
 
 -- a fault of a layer below as one of plans, carried whole: that of a bound,
 abbrev pub of_bound : BoundFault → PlanFault

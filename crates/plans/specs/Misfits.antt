@@ -5,7 +5,7 @@ use Rattle.delays.specs.Kind.{Kind, Unread}
 use Rattle.delays.specs.declared.fault.KindFault.{KindFault}
 use Rattle.delays.specs.declared.fault.KindFault.TheVariants.{Unread as unread}
 use Rattle.plans.specs.declared.fault.PlanFault.{PlanFault}
-use Rattle.plans.specs.declared.fault.PlanFault.TheVariants.{Unsettled, SettledAlready, Points, ListShort, Point, Kind as KindRefuses, Conflict, MarksFull, WrongSlip, Bound, Book}
+use Rattle.plans.specs.declared.fault.PlanFault.TheVariants.{Point, Kind as KindRefuses}
 use Rattle.plans.specs.Rows.{Fit, Outside}
 
 -- the kind has a delay with the parts of the row, or none
@@ -24,15 +24,7 @@ module _ (k : Kind) (n : ℕ) where
   abbrev pub Misfit : ℕ → Row → PlanFault → Type 0
   Misfit i r (Point place) = (place ≡ i) × Outside n r
   Misfit i r (KindRefuses unread place) = (place ≡ i) × NoDelay r
-  Misfit i r Unsettled = ⊥
-  Misfit i r SettledAlready = ⊥
-  Misfit i r Points = ⊥
-  Misfit i r ListShort = ⊥
-  Misfit i r (Conflict length) = ⊥
-  Misfit i r MarksFull = ⊥
-  Misfit i r WrongSlip = ⊥
-  Misfit i r (Bound e) = ⊥
-  Misfit i r (Book e) = ⊥
+  Misfit i r fault = ⊥
 
   -- the row with the number i fits, or why not
   abbrev pub RowChecked : ℕ → Row → Result (Unit {0}) PlanFault → Type 0

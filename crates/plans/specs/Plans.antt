@@ -10,7 +10,7 @@ use Rattle.books.specs.declared.book.Book as book
 use Rattle.books.specs.Meaning.{Meaning}
 use Rattle.books.specs.Calls.{Adding, Cutting}
 use Rattle.plans.specs.declared.fault.PlanFault.{PlanFault}
-use Rattle.plans.specs.declared.fault.PlanFault.TheVariants.{Unsettled, SettledAlready, Points, ListShort, Point, Kind as KindRefuses, Conflict, MarksFull, WrongSlip, Bound, Book}
+use Rattle.plans.specs.declared.fault.PlanFault.TheVariants.{Conflict}
 use Rattle.plans.specs.declared.mark.Mark.{Mark}
 use Rattle.plans.specs.declared.plan.Plan.{Plan}
 use Rattle.plans.specs.declared.posted.Posted.{Posted}
@@ -66,18 +66,8 @@ pub record Refused (k : Kind) (s : State) (call : Call) (fault : PlanFault) : Ty
 
 -- the caller's list after a call that may find a conflict: it begins with the words of a chain, or it is as it was
 abbrev pub ChainOrSame : {A : Type 0} (k : Kind) → ℕ → (book posted : List Row) → (before after : List ℕ) → Result A PlanFault → Type 0
-ChainOrSame k n book posted before after (Ok a) = after ≡ before
 ChainOrSame k n book posted before after (Err (Conflict length)) = ChainWritten k n book posted before after length
-ChainOrSame k n book posted before after (Err Unsettled) = after ≡ before
-ChainOrSame k n book posted before after (Err SettledAlready) = after ≡ before
-ChainOrSame k n book posted before after (Err Points) = after ≡ before
-ChainOrSame k n book posted before after (Err ListShort) = after ≡ before
-ChainOrSame k n book posted before after (Err (Point place)) = after ≡ before
-ChainOrSame k n book posted before after (Err (KindRefuses e place)) = after ≡ before
-ChainOrSame k n book posted before after (Err MarksFull) = after ≡ before
-ChainOrSame k n book posted before after (Err WrongSlip) = after ≡ before
-ChainOrSame k n book posted before after (Err (Bound e)) = after ≡ before
-ChainOrSame k n book posted before after (Err (Book e)) = after ≡ before
+ChainOrSame k n book posted before after r = after ≡ before
 
 module _ {S : Type 0} (meaning : S → Meaning) where
   -- the book after a post: the bound is added where it was accepted and not covered, and else the book is the very same

@@ -8,7 +8,8 @@ use Rattle.network.specs.Bounds.{Bounds}
 use Rattle.network.specs.Chains.{ChainIn}
 use Rattle.network.specs.Earliest.{Earliest}
 use Rattle.plans.specs.declared.fault.PlanFault.{PlanFault}
-use Rattle.plans.specs.declared.fault.PlanFault.TheVariants.{Unsettled, SettledAlready, Points, ListShort, Point, Kind as KindRefuses, Conflict, MarksFull, WrongSlip, Book}
+use Rattle.plans.specs.declared.fault.PlanFault.TheVariants.{Unsettled, SettledAlready, Points, ListShort, Point, Kind as KindRefuses, Conflict, MarksFull}
+use Rattle.plans.specs.declared.fault.PlanFault.TheVariants.{WrongSlip, Book}
 use Rattle.plans.specs.Rows.{force, Outside, Covered, Times, moved_count}
 use Rattle.plans.specs.Answers.{Call, settle, post, read, mark, keep, back, Answer, settled, covered, moved, time, slip, done, refused}
 use Rattle.plans.specs.States.{State, rows, depth, settling, posting, marking, closing, cutting, noted}

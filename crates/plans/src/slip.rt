@@ -22,6 +22,7 @@ impl Drop for Slip {
 }
 
 impl Slip {
+    // A slip that is not spent.
     pub(crate) fn new(number: u32, depth: usize) -> Slip
         ensures number { result.number ≡ number }
         ensures depth { result.depth ≡ depth }
@@ -34,12 +35,14 @@ impl Slip {
         }
     }
 
+    // The number of the plan that handed it out.
     pub fn number(&self) -> u32
         ensures { result ≡ self.now.number }
     {
         self.number
     }
 
+    // The depth of its mark.
     pub fn depth(&self) -> usize
         ensures { result ≡ self.now.depth }
     {

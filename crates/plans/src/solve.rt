@@ -1,5 +1,5 @@
 // The earliest times of bounds, or a chain.
-ghost use Rattle.std.specs.Prelude.{◌≡◌, ℕ, ◌<◌, ◌≤◌, ◌⊎◌, true, List, [], ◌∷◌, ◌++◌, length, All};
+ghost use Rattle.std.specs.Prelude.{◌≡◌, ℕ, ◌<◌, ◌≤◌, ◌⊎◌, true, [], ◌∷◌, ◌++◌, length, All};
 ghost use Rattle.bounds.specs.Making.{row_of};
 ghost use Rattle.books.specs.Meaning.{bounds_of};
 ghost use Rattle.plans.specs.Rows.{Fit, Solvable, Times};

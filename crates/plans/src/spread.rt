@@ -1,8 +1,8 @@
 // Rounds until no point waits.
-ghost use Rattle.std.specs.Prelude.{◌≡◌, ℕ, ◌+◌, ◌*◌, ◌<◌, ◌≤◌, true, false, length, take, position, All, slice_index};
+ghost use Rattle.std.specs.Prelude.{◌≡◌, ℕ, ◌*◌, ◌<◌, ◌≤◌, length, take, position, All, slice_index};
 ghost use Rattle.plans.specs.Rows.{Fit};
 ghost use Rattle.plans.specs.Questions.{question_rows, in_question};
-ghost use Rattle.plans.specs.Labels.{label_time, label_via, label_waits};
+ghost use Rattle.plans.specs.Labels.{label_time, label_via};
 ghost use Rattle.plans.specs.Rounds.{RoundMade, Progress, Spread};
 
 use crate::label::Label;

@@ -1,5 +1,5 @@
 // The chain behind a point that waits after the last round, as words on the caller's list.
-ghost use Rattle.std.specs.Prelude.{◌≡◌, ℕ, ◌+◌, ◌<◌, ◌≤◌, ◌⊎◌, [], length, All, slice_range};
+ghost use Rattle.std.specs.Prelude.{◌≡◌, ◌+◌, ◌<◌, ◌≤◌, ◌⊎◌, [], length, All, slice_range};
 ghost use Rattle.delays.specs.Kind.{Kind};
 ghost use Rattle.plans.specs.Rows.{Fit, Solvable};
 ghost use Rattle.plans.specs.Conflicts.{ChainWritten};

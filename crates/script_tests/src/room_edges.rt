@@ -1,7 +1,7 @@
 // How long a script may be, and how short an output.
 use crate::setups::{lists_in, refuses_in};
 use faults::{Fault, Layer};
-use scripts::ScriptFault;
+use scripts::{ScriptFault, printed};
 use std::test::Fail;
 
 #[test]
@@ -48,6 +48,23 @@ fn the_longest_scripts(rt: HostRuntime) -> Result<(), Fail> {
     script.push(b'W')?;
     refuses_in(&rt, heap, 64, script.as_slice())?;
     refuses_in(&rt, heap, 100_000, script.as_slice())
+}
+
+// The program has room for 1,024 lines, and tells by one line that a text has more, or more than 32,768 bytes.
+#[test]
+fn what_the_program_prints(rt: HostRuntime) -> Result<(), Fail> {
+    let heap = rt.alloc();
+    assert_eq!(rt; printed(heap, b"")?.as_slice(), b"".as_slice());
+    assert_eq!(rt; printed(heap, b"T 1\nW 0")?.as_slice(), b"1 S 0\n2 W 0 0 0 0\n".as_slice());
+    let mut script = vec![in heap; b'\n'; 1_024]?;
+    assert!(rt; printed(heap, script.as_slice())?.as_slice().ends_with(b"\n1024 E 12 L 0\n"));
+    script.push(b'\n')?;
+    assert_eq!(rt; printed(heap, script.as_slice())?.as_slice(), b"E 14 L 0\n".as_slice());
+    let mut script = vec![in heap; b'W'; 32_768]?;
+    assert_eq!(rt; printed(heap, script.as_slice())?.as_slice(), b"1 E 12 L 0\n".as_slice());
+    script.push(b'W')?;
+    assert_eq!(rt; printed(heap, script.as_slice())?.as_slice(), b"E 14 L 0\n".as_slice());
+    Ok(())
 }
 
 #[test]

@@ -4,4 +4,6 @@ pub mod Widths
 mod Progress
 pub mod Lines
 mod Readings
+mod Trying
 mod Once
+mod Printing

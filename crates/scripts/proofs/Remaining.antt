@@ -1,5 +1,6 @@
 -- What the calls on a plan leave of it. Assumes nothing.
-use Rattle.std.proofs.Common.{◌≡◌, ℕ, ◌+◌, ◌-◌, true, false, ◌⊎◌, List, [], ◌∷◌, ◌++◌, length, take, sym, refl, ap, ◌∙◌, subst, inl, inr, arith, ℤ, Ok, Err, Result}
+use Rattle.std.proofs.Common.{◌≡◌, ℕ, ◌+◌, ◌-◌, true, false, ◌⊎◌, List, [], ◌∷◌, ◌++◌, length, take}
+use Rattle.std.proofs.Common.{sym, refl, ap, ◌∙◌, subst, inl, inr, arith, ℤ, Ok, Err, Result}
 use Rattle.std.specs.Result.{IsErrAnd}
 use Rattle.bounds.specs.declared.row.Row.{Row}
 use Rattle.books.specs.Layers.{table_of}
@@ -8,10 +9,10 @@ use Rattle.delays.specs.Kind.{Kind, Exact}
 use Rattle.plans.specs.declared.fault.PlanFault.{PlanFault}
 use Rattle.plans.specs.Answers.{settle, post, mark, back, Answer, settled, slip, done, refused}
 use Rattle.plans.specs.States.{State, rows, opened, settling, posting, marking, closing, cutting, noted}
-use Rattle.plans.specs.Steps.{Ending, Becomes, Check, EachBound, Conflicts, Present, Step}
+use Rattle.plans.specs.Steps.{Ending, Becomes, Unless, Check, EachBound, Conflicts, Present, Step}
 use Rattle.scripts.specs.declared.answer.Answer.{Answer as LineAnswer}
 use Rattle.scripts.specs.declared.answer.Answer.TheVariants.{Settled}
-use Rattle.scripts.specs.Sessions.{Session, unopened, Opens, of_fault, points_of, list_length}
+use Rattle.scripts.specs.Sessions.{Session, unopened, Opens, of_fault, list_length, new_plan, SettledNew}
 use Rattle.scripts.specs.Ready.{Ready, StaysUnsettled, Settles}
 
 -- the plan is settled as it was, with its number and its open marks
@@ -26,10 +27,6 @@ kept_same e = record { settled = ap (λ (s : State). s.settled) e; number = ap (
 module _ {k : Kind} where
   abbrev Keeps : State → Ending k → Type 0
   Keeps s P = (a : Answer k) (t : State) → P a t → Kept s t
-
-  -- where `bad` holds this is the answer, and the plan stays
-  abbrev Unless : State → Type 0 → Answer k → Ending k → Ending k
-  Unless s bad x P a t = (bad × Becomes x s a t) ⊎ ((bad → ⊥) × P a t)
 
   keeps_check : {s : State} {bad : Type 0} {x : Answer k} {P : Ending k} → Keeps s P → Keeps s (Unless s bad x P)
   keeps_check h a t (inl p) = kept_same p.1.1
@@ -143,23 +140,23 @@ opened_empty s m given points is empty same = cc
 module _ {k : Kind} {P : Type 0} (state : P → State) (n : ℤ) where
   -- a plan that is not settled is refused
   pub settles_not : (r : Result (P × ℕ) PlanFault) (e : PlanFault) (t : State) → IsErrAnd r (λ f. f ≡ e)
-      → Step k (opened (table_of []) (points_of n) 0) (settle list_length) (refused e) t → Settles k state n r
+      → SettledNew k n (refused e) t → Settles k state n r
   settles_not (Ok p) e t none step = absurd none
   settles_not (Err f) e t same step = (
     t,
-    subst (λ f. Step k (opened (table_of []) (points_of n) 0) (settle list_length) (refused f) t) (sym same) step,
-    settle_stays (opened (table_of []) (points_of n) 0) list_length e t step refl,
+    subst (λ f. SettledNew k n (refused f) t) (sym same) step,
+    settle_stays (new_plan n) list_length e t step refl,
   )
 
 module _ {k : Kind} {m n : ℤ} (same : m ≡ n) (session : State → Session) where
   -- a plan that is settled opens a session
-  pub opens_settled : (t : State) (count : ℕ) → Step k (opened (table_of []) (points_of m) 0) (settle list_length) (settled count) t × Ready t
+  pub opens_settled : (t : State) (count : ℕ) → SettledNew k m (settled count) t × Ready t
       → Opens k session n (Settled count) (session t)
   opens_settled t count h =
-      let step = subst (λ (n : ℤ). Step k (opened (table_of []) (points_of n) 0) (settle list_length) (settled count) t) same h.0 in
+      let step = subst (λ (n : ℤ). SettledNew k n (settled count) t) same h.0 in
       (settled count, t, step, refl, inl (h.1.settled, refl))
 
   -- and a refused one opens none
   pub opens_none : (e : PlanFault) (a : LineAnswer) → a ≡ of_fault e → StaysUnsettled k m e → Opens k session n a unopened
   opens_none e a says h =
-      (refused e, h.0, subst (λ (n : ℤ). Step k (opened (table_of []) (points_of n) 0) (settle list_length) (refused e) h.0) same h.1, says, inr (h.2, refl))
+      (refused e, h.0, subst (λ (n : ℤ). SettledNew k n (refused e) h.0) same h.1, says, inr (h.2, refl))

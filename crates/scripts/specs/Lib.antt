@@ -7,3 +7,4 @@ pub mod SessionOf
 pub mod Room
 pub mod Lines
 pub mod Listings
+pub mod Prints

@@ -2,7 +2,7 @@
 use Rattle.std.specs.Prelude.{◌≤◌, ℤ, unsigned_abs}
 use Rattle.delays.specs.Sizes.{number_reach}
 use Rattle.scripts.specs.declared.answer.Answer.{Answer}
-use Rattle.scripts.specs.declared.answer.Answer.TheVariants.{Settled, Moved, Covered, Conflict, Time, Refused}
+use Rattle.scripts.specs.declared.answer.Answer.TheVariants.{Time}
 
 -- the size of a part of a time is at most the greatest that a delay's number has
 abbrev pub ShortPart : ℤ → Type 0
@@ -10,9 +10,5 @@ ShortPart z = unsigned_abs z ≤ number_reach
 
 -- where the answer is a time, both its parts are short
 abbrev pub ShortTime : Answer → Type 0
-ShortTime (Settled count) = Unit {0}
-ShortTime (Moved count) = Unit {0}
-ShortTime Covered = Unit {0}
-ShortTime Conflict = Unit {0}
 ShortTime (Time point t s) = ShortPart t × ShortPart s
-ShortTime (Refused f) = Unit {0}
+ShortTime answer = Unit {0}

@@ -1,12 +1,12 @@
 // What a plan answers to the lines about it.
-ghost use Rattle.std.specs.Prelude.{◌≡◌, ℕ};
+ghost use Rattle.std.specs.Prelude.{◌≡◌};
 ghost use Rattle.bounds.specs.Making.{row_of};
 ghost use Rattle.delays.specs.Kind.{Kind};
 ghost use Rattle.plans.specs.Plans.{state_of, post_answer, read_answer};
-ghost use Rattle.scripts.specs.declared.command.Command.TheVariants.{Post, Try, Read};
-ghost use Rattle.scripts.specs.Sessions.{of_fault, Answers, Obeys, points_of};
+ghost use Rattle.scripts.specs.declared.command.Command.TheVariants.{Post, Read};
+ghost use Rattle.scripts.specs.Sessions.{of_fault, Told, Tried, Obeys, points_of};
 ghost use Rattle.scripts.specs.Room.{ShortTime};
-ghost use Rattle.scripts.specs.Ready.{Ready, ShortParts, Tried, Settles};
+ghost use Rattle.scripts.specs.Ready.{Ready, ShortParts, Settles};
 
 use crate::answer::Answer;
 use crate::command::Command;
@@ -33,7 +33,7 @@ pub(crate) fn fault_answer(fault: PlanFault) -> Answer
 
 // The answer to a line that posts.
 fn posted_answer(outcome: Result<Posted, PlanFault>) -> Answer
-    ensures says { (k : Kind) → Answers k 0 (post_answer outcome) result }
+    ensures says { (k : Kind) → Told k 0 (post_answer outcome) result }
     ensures short { ShortTime result }
 {
     match outcome {
@@ -46,7 +46,7 @@ fn posted_answer(outcome: Result<Posted, PlanFault>) -> Answer
 // The answer to a line that reads the point.
 fn time_answer<D: Delay>(point: u16, outcome: Result<D, PlanFault>) -> Answer
     requires parts { ShortParts D.kind }
-    ensures says { Answers D.kind point (read_answer D.means outcome) result }
+    ensures says { Told D.kind point (read_answer D.means outcome) result }
     ensures short { ShortTime result }
 {
     match outcome {
@@ -61,7 +61,7 @@ fn time_answer<D: Delay>(point: u16, outcome: Result<D, PlanFault>) -> Answer
 // Posts the bound between a mark and a back.
 fn try_bound<D: Delay, B: Book>(plan: &mut Plan<D, B>, bound: Bound) -> Result<Posted, PlanFault>
     requires ready { Ready (state_of plan.now) }
-    ensures tried { Tried D.kind (state_of plan.old) (row_of bound) result (state_of plan.new) }
+    ensures tried { Tried D.kind (state_of plan.old) (row_of bound) (post_answer result) (state_of plan.new) }
     ensures ready { Ready (state_of plan.new) }
 {
     let slip = plan.mark()?;

@@ -1,5 +1,5 @@
 // What a line of a script says.
-ghost use Rattle.std.specs.Prelude.{◌≡◌, [], ◌∷◌, ℤ};
+ghost use Rattle.std.specs.Prelude.{[], ◌∷◌, ℤ};
 ghost use Rattle.std.specs.Result.{result_map_both};
 ghost use Rattle.bounds.specs.declared.bound.Bound.{Bound as BoundType};
 ghost use Rattle.lines.specs.Fields.{left_of};
@@ -82,7 +82,8 @@ fn command_in(letter: char, fields: &mut Fields) -> Result<Command, ScriptFault>
     }
 }
 
-// The command that a line says, or why it says none: an unreadable field first, then a number out of a bound's range.
+// The command that a line says. Refused where a field is missing, bad or extra (12, with the number of the first such field as its place), or
+// else a number is out of its range: in a bound it is 7 with the place of the part, and for a point to read 7 with place 1.
 pub fn command_of(line: &[u8]) -> Result<Command, ScriptFault>
     ensures { CommandOf line.now result }
 {

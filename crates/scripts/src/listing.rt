@@ -2,6 +2,7 @@
 ghost use Rattle.std.specs.Prelude.{◌≡◌, ◌+◌, ◌*◌, ◌≤◌, ◌++◌, length, take, drop, IfOk};
 ghost use Rattle.scripts.specs.Lines.{script_lines};
 ghost use Rattle.scripts.specs.Listings.{Written, Listed, OneListing};
+ghost use Rattle.scripts.specs.Sessions.{TriesLeave};
 
 use crate::fault::ScriptFault;
 use crate::script::{line_count, next_line};
@@ -40,13 +41,14 @@ fn write_lines(script: &[u8], output: &mut [u8]) -> usize
     written
 }
 
-// Writes the listing of the script at the start of the output, and answers its length; or refuses, and writes nothing, where the script has
-// more than 32,768 bytes or the output fewer than 64 bytes a line.
-#[tactic(auto, using(crate::proofs::Once::one_listing))]
+// Writes the listing of the script at the start of the output, and answers its length. Refused, with nothing written, where the script has more
+// than 32,768 bytes or the output fewer than 64 bytes a line (14, place 0).
+#[tactic(auto, using(crate::proofs::Once::one_listing, crate::proofs::Trying::tries_leave))]
 pub fn list(script: &[u8], output: &mut [u8]) -> Result<usize, ScriptFault>
     ensures listed { Listed script.now output.old output.new result }
     ensures fits { IfOk result (λ n. n ≤ length output.old) }
     ensures one { OneListing script.now }
+    ensures tries { TriesLeave }
 {
     if script.len() > SCRIPT_BYTES || output.len() / LINE_BYTES < line_count(script) {
         return Err(ScriptFault::Room);

@@ -1,6 +1,5 @@
 // A script's session: the plan that its lines are about, and what they are answered.
-ghost use Rattle.std.specs.Prelude.{◌≡◌};
-ghost use Rattle.scripts.specs.Sessions.{Answered, LineAnswered, unopened};
+ghost use Rattle.scripts.specs.Sessions.{CommandAnswered, LineAnswered, unopened};
 ghost use Rattle.scripts.specs.Room.{ShortTime};
 ghost use Rattle.scripts.specs.Ready.{Between};
 ghost use Rattle.scripts.specs.SessionOf.{session_of};
@@ -8,7 +7,6 @@ ghost use Rattle.scripts.specs.SessionOf.{session_of};
 use crate::answer::Answer;
 use crate::asking::{fault_answer, obey, settled_plan};
 use crate::command::{Command, command_of};
-use crate::fault::ScriptFault;
 use books::Table;
 use delays::{Ranked, Ticks};
 use faults::Fault;
@@ -25,7 +23,7 @@ pub(crate) enum Session {
 impl Session {
     // The session after a line that comes before there is a plan, and the answer.
     fn begin(command: Command) -> (Session, Answer)
-        ensures answered { Answered unopened command result.1 (session_of result.0) }
+        ensures answered { CommandAnswered unopened command result.1 (session_of result.0) }
         ensures between { Between (session_of result.0) }
         ensures short { ShortTime result.1 }
     {
@@ -47,7 +45,7 @@ impl Session {
     // Carries out a command, and answers it.
     pub(crate) fn obey(&mut self, command: Command) -> Answer
         requires between { Between (session_of self.now) }
-        ensures answered { Answered (session_of self.old) command result (session_of self.new) }
+        ensures answered { CommandAnswered (session_of self.old) command result (session_of self.new) }
         ensures between { Between (session_of self.new) }
         ensures short { ShortTime result }
     {

@@ -1,7 +1,7 @@
-// The calls on a plan.
+// The calls on a plan. What is refused is told with its number, and with its place where that is not 0.
 ghost use Rattle.std.specs.Prelude.{IfOk, ◌≡◌, true, false, MatchResult};
 ghost use Rattle.plans.specs.Answers.{read, mark, keep, back};
-ghost use Rattle.plans.specs.States.{State, opened, depth, noted};
+ghost use Rattle.plans.specs.States.{opened, depth, noted};
 ghost use Rattle.plans.specs.Steps.{Step, Present};
 ghost use Rattle.plans.specs.Runs.{RunsStand};
 
@@ -86,6 +86,7 @@ impl<D: Delay, B: Book> Plan<D, B> {
         self.marks.len()
     }
 
+    // The check that is first in every call but settle.
     pub(crate) fn check_settled(&self) -> Result<(), PlanFault>
         ensures { MatchResult result (λ u. self.now.settled ≡ true) (λ e. (e ≡ PlanFault.Unsettled) × (self.now.settled ≡ false)) }
     {
@@ -96,7 +97,7 @@ impl<D: Delay, B: Book> Plan<D, B> {
         }
     }
 
-    // The earliest time of a point.
+    // The earliest time of a point. Refused where the plan is not settled (1), or the point is not below the number of points (5, place 1).
     pub fn read(&self, point: usize) -> Result<D, PlanFault>
         ensures { Step D.kind (state_of self.now) (read point) (read_answer D.means result) (state_of self.now) }
     {
@@ -107,7 +108,7 @@ impl<D: Delay, B: Book> Plan<D, B> {
         Ok(time_at(&self.labels, point))
     }
 
-    // Opens a mark and hands out its slip.
+    // Opens a mark and hands out its slip. Refused where the plan is not settled (1), or eight marks are open (10).
     #[tactic(auto, using(crate::proofs::Sounds::sound_marked))]
     pub fn mark(&mut self) -> Result<Slip, PlanFault>
         ensures step { Step D.kind (state_of self.old) mark (mark_answer result) (state_of self.new) }
@@ -141,8 +142,8 @@ impl<D: Delay, B: Book> Plan<D, B> {
         }
     }
 
-    // Closes the youngest mark, and keeps what was posted since. The slip is taken first, since it must be handed on before any `?`; that the
-    // plan is not settled still goes before that the slip is wrong.
+    // Closes the youngest mark, and keeps what was posted since. Refused where the plan is not settled (1), or the slip's number or depth is not
+    // the plan's present one (11). The slip is taken before either is told, since it must be handed on before any `?`.
     #[tactic(auto, using(crate::proofs::Sounds::sound_popped))]
     pub fn keep(&mut self, slip: Slip) -> Result<(), PlanFault>
         ensures step { Step D.kind (state_of self.old) (keep slip.number slip.depth) (close_answer result) (state_of self.new) }
@@ -155,7 +156,7 @@ impl<D: Delay, B: Book> Plan<D, B> {
         Ok(())
     }
 
-    // Closes the youngest mark, and takes back what was posted since. As in keep, the slip is taken before anything is refused.
+    // Closes the youngest mark, and takes back what was posted since. Refused as keep is, which has the slip then too.
     #[tactic(auto, using(crate::proofs::Sounds::sound_popped, crate::proofs::Sounds::sound_restored))]
     pub fn back(&mut self, slip: Slip) -> Result<(), PlanFault>
         ensures step { Step D.kind (state_of self.old) (back slip.number slip.depth) (close_answer result) (state_of self.new) }

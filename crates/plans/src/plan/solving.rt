@@ -1,9 +1,8 @@
-// The calls that look for earliest times: settle and post.
-ghost use Rattle.std.specs.Prelude.{◌≡◌, ◌++◌, ◌∷◌, [], true, false, MatchResult, length};
-ghost use Rattle.bounds.specs.declared.row.Row.{Row};
+// The calls that look for earliest times: settle and post. What is refused is told with its number, and with its place where that is not 0.
+ghost use Rattle.std.specs.Prelude.{◌≡◌, ◌++◌, ◌∷◌, [], MatchResult, length};
 ghost use Rattle.bounds.specs.Making.{row_of};
-ghost use Rattle.plans.specs.Answers.{settle, post, refused};
-ghost use Rattle.plans.specs.States.{State, rows};
+ghost use Rattle.plans.specs.Answers.{settle, post};
+ghost use Rattle.plans.specs.States.{rows};
 ghost use Rattle.plans.specs.Steps.{Step};
 ghost use Rattle.plans.specs.Runs.{Tries};
 
@@ -38,8 +37,10 @@ impl<D: Delay, B: Book> Plan<D, B> {
         first_misfit::<D, B>(&self.book, self.points)
     }
 
-    // Settles the plan: finds the earliest times of its points, and answers how many of them are not zero. Where the bounds in force can't be
-    // met, the list begins with the words of a chain.
+    // Settles the plan: finds the earliest times of its points, and answers how many of them are not zero. Refused where it is settled already
+    // (2); the number of points is not from 1 to 128 (3); the list is shorter than that (4); a point of a bound of the book is not below it (5),
+    // or the kind has no delay with the bound's parts (6), both with the bound's number as their place; or the bounds in force can't be met (8):
+    // then the list begins with the words of a chain, whose length is the place.
     pub fn settle(&mut self, list: &mut [u32]) -> Result<usize, PlanFault>
         ensures step { Step D.kind (state_of self.old) (settle (length list.old)) (settle_answer result) (state_of self.new) }
         ensures book { self.new.book ≡ self.old.book }
@@ -79,8 +80,10 @@ impl<D: Delay, B: Book> Plan<D, B> {
         Ok(())
     }
 
-    // Posts a bound: it is covered, or added to the book, and then so many points have another earliest time than before. Where it can't be
-    // met with the bounds in force, the list begins with the words of a chain that begins with it.
+    // Posts a bound: it is covered, or added to the book, and then so many points have another earliest time than before. Refused where the plan
+    // is not settled (1); the left point is not below the number of points (5, place 1), or the right one (5, place 2); the kind has no delay
+    // with the parts (6); the list is shorter than the number of points (4); the bound can't be met with those in force (8): then the list begins
+    // with the words of a chain that begins with it, whose length is the place; or the book has no free place (9).
     pub fn post(&mut self, bound: Bound, list: &mut [u32]) -> Result<Posted, PlanFault>
         ensures step { Step D.kind (state_of self.old) (post (length list.old) (row_of bound)) (post_answer result) (state_of self.new) }
         ensures book { AddedOrSame B.meaning B.adds self.old.book (row_of bound) self.new.book result }

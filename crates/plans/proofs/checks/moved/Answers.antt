@@ -17,11 +17,13 @@ loop-point-preserved g c =
     let u = c.time_at.result in
     let v = c.time_at-in-loop-point.result in
     let more =
-    moved_more g.met.D.Delay.lawful (time c.args.before.now) (time c.args.after.now) c.loop-point.point (d.means u) (d.means v) (g.D.PartialEq.eq u v) c.ne.result in
+    moved_more g.met.D.Delay.lawful (time c.args.before.now) (time c.args.after.now) c.loop-point.point (d.means u) (d.means v) (g.D.PartialEq.eq u v)
+    c.ne.result in
     let same = g.met.D.Delay.equal u v in
     let loop = c.loop-point in
     elim c.if-ne.branch [
-      | then-ne w ↦ more true loop.count c.if-ne.count c.time_at.ensures c.time_at-in-loop-point.ensures same c.ne.ensures w.if-ne.true loop.invariant w.count-is
+      | then-ne w ↦
+          more true loop.count c.if-ne.count c.time_at.ensures c.time_at-in-loop-point.ensures same c.ne.ensures w.if-ne.true loop.invariant w.count-is
       | else-ne w ↦
           more false loop.count c.if-ne.count c.time_at.ensures c.time_at-in-loop-point.ensures same c.ne.ensures w.if-ne.false loop.invariant
           (w.count-is ∙ sym (add-zero loop.count))

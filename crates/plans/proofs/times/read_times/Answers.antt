@@ -9,7 +9,8 @@ loop-p-preserved g c =
     let d = g.D.Delay in
     let loop = c.loop-p in
     filled_more (λ x. d.means x.time) d.kind.zero (time_of_point d.kind d.means c.args.times.now) loop.p loop.labels _ (omega arith)
-    (ap d.means c.index-times-p.is ∙ sym (get_or-map d.means c.args.times.now loop.p c.index-times-p.result d.kind.zero (omega (arith, c.requires, c.loop-p-test.true)))) loop.invariant
+    (ap d.means c.index-times-p.is
+    ∙ sym (get_or-map d.means c.args.times.now loop.p c.index-times-p.result d.kind.zero (omega (arith, c.requires, c.loop-p-test.true)))) loop.invariant
 
 pub returns-clause-times : goal.returns-clause-times
 returns-clause-times g c =

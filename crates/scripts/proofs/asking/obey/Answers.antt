@@ -18,9 +18,8 @@ returns-in-Post-clause-ready g c =
 
 pub returns-in-Try-clause-obeys : goal.returns-in-Try-clause-obeys
 returns-in-Try-clause-obeys g c =
-    let t = c.try_bound.ensures.tried in
     subst (λ (x : Command). Obeys g.D.Delay.kind (state_of c.args.plan.now) x c.posted_answer-in-Try.result (state_of c.try_bound.new.plan)) (sym c.in-Try.is)
-    (post_answer c.try_bound.result, t.0, t.1, t.2, t.3, t.4, t.5, t.6, c.posted_answer-in-Try.ensures.says g.D.Delay.kind)
+    (post_answer c.try_bound.result, c.try_bound.ensures.tried, c.posted_answer-in-Try.ensures.says g.D.Delay.kind)
 
 pub returns-in-Read-clause-obeys : goal.returns-in-Read-clause-obeys
 returns-in-Read-clause-obeys g c =

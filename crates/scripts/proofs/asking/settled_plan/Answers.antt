@@ -1,10 +1,9 @@
-use Rattle.std.proofs.Common.{◌≡◌, w64, to_z, of_z, to_z-of_z, refl, ap, ◌∙◌, subst, [], rules}
-use Rattle.books.specs.Layers.{table_of}
+use Rattle.std.proofs.Common.{◌≡◌, w64, to_z, of_z, to_z-of_z, refl, ap, ◌∙◌, subst, rules}
 use Rattle.plans.specs.Answers.{settle, settled, refused}
-use Rattle.plans.specs.States.{State, opened}
+use Rattle.plans.specs.States.{State}
 use Rattle.plans.specs.Steps.{Step}
 use Rattle.plans.specs.Plans.{state_of}
-use Rattle.scripts.specs.Sessions.{points_of, list_length}
+use Rattle.scripts.specs.Sessions.{points_of, list_length, new_plan, SettledNew}
 use Rattle.scripts.proofs.Remaining.{opened_empty, settle_ready, settles_not}
 use Rattle.scripts.proofs.asking.settled_plan.Goals as goal
 
@@ -14,9 +13,9 @@ returns-in_err-count g c =
     let e = c.in_err-count.field-0.0 in
     let t = state_of c.settle.new.self in
     let read : to_z w64 (of_z w64 c.args.points) ≡ c.args.points = search (rules, to_z-of_z) in
-    let first : state_of c.open-plan.result ≡ opened (table_of []) (points_of c.args.points) 0 =
+    let first : state_of c.open-plan.result ≡ new_plan c.args.points =
     opened_empty _ _ _ _ c.open-plan.ensures.opened c.new.ensures (c.point_count.ensures ∙ ap points_of read) in
-    let step : Step k (opened (table_of []) (points_of c.args.points) 0) (settle list_length) (refused e) t =
+    let step : SettledNew k c.args.points (refused e) t =
     subst (λ (s : State). Step k s (settle list_length) (refused e) t) first c.in_err-count.ensures.step in
     settles_not state_of c.args.points c.from_residual.result e t c.from_residual.ensures.1 step
 
@@ -25,8 +24,8 @@ returns g c =
     let k = g.D.Delay.kind in
     let t = state_of c.settle.new.self in
     let read : to_z w64 (of_z w64 c.args.points) ≡ c.args.points = search (rules, to_z-of_z) in
-    let first : state_of c.open-plan.result ≡ opened (table_of []) (points_of c.args.points) 0 =
+    let first : state_of c.open-plan.result ≡ new_plan c.args.points =
     opened_empty _ _ _ _ c.open-plan.ensures.opened c.new.ensures (c.point_count.ensures ∙ ap points_of read) in
-    let step : Step k (opened (table_of []) (points_of c.args.points) 0) (settle list_length) (settled c.in_ok-count.count) t =
+    let step : SettledNew k c.args.points (settled c.in_ok-count.count) t =
     subst (λ (s : State). Step k s (settle list_length) (settled c.in_ok-count.count) t) first c.in_ok-count.ensures.step in
-    (step, settle_ready (opened (table_of []) (points_of c.args.points) 0) list_length c.in_ok-count.count t step refl)
+    (step, settle_ready (new_plan c.args.points) list_length c.in_ok-count.count t step refl)

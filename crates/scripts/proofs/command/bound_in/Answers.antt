@@ -17,7 +17,8 @@ returns-in_err-new c make =
     inl (
       c.in_ok-left.field-0,
       c.in_ok-left.ensures.reads,
-      four_refuse make c.in_ok-left.field-0 c.in_err-new.field-0.0 _ (search rules) (ap (result_map_both make (λ e. e)) is) (search (rules, c.in_err-new.ensures)),
+      four_refuse make c.in_ok-left.field-0 c.in_err-new.field-0.0 _ (search rules) (ap (result_map_both make (λ e. e)) is)
+          (search (rules, c.in_err-new.ensures)),
     )
 
 pub returns : goal.returns

@@ -17,8 +17,8 @@ returns-then-from-self-2 g c =
 
 pub returns-in_err-check_pair : goal.returns-in_err-check_pair
 returns-in_err-check_pair g c =
-    pair_answered g.D.Delay.kind (state_of c.args.self.now) c.args.length (row_of c.args.bound) c.from_residual-in_err-check_pair.result c.in_err-check_pair.field-0.0
-    c.from_residual-in_err-check_pair.ensures.1 (c.in_ok-check_settled.ensures {u = tt})
+    pair_answered g.D.Delay.kind (state_of c.args.self.now) c.args.length (row_of c.args.bound) c.from_residual-in_err-check_pair.result
+    c.in_err-check_pair.field-0.0 c.from_residual-in_err-check_pair.ensures.1 (c.in_ok-check_settled.ensures {u = tt})
     (omega (arith, c.if-from-self.false, c.from.ensures, ap (λ r. r.left) c.row-row.ensures.value))
     (omega (arith, c.if-from-self-2.false, c.from-2.ensures, ap (λ r. r.right) c.row-row.ensures.value))
     (rw c.row-row.ensures.value at (c.in_err-check_pair.ensures {u = tt}))

@@ -1,6 +1,5 @@
 use Rattle.plans.proofs.Sounds.{sound_popped}
 use Rattle.plans.proofs.plan.Plan.keep.Goals as goal
 
--- src/plan/calls.rt:107:9
 pub invariant_of-self : goal.invariant_of-self
 invariant_of-self g c = record { sound = sound_popped c.pop.result c.pop.ensures.items c.args.self.now.sound }

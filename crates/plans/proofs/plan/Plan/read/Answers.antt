@@ -1,7 +1,6 @@
 use Rattle.plans.proofs.Least.{read_step}
 use Rattle.plans.proofs.plan.Plan.read.Goals as goal
 
--- src/plan/calls.rt:59:5
 pub returns : goal.returns
 returns g c =
     let on = c.in_ok-check_settled.ensures {u = tt} in
