@@ -6,9 +6,9 @@ use Rattle.delays.specs.Kind.{Kind}
 use Rattle.network.specs.Bounds.{ExactBound, Numbered, floor_of}
 use Rattle.network.specs.declared.link.Link.{Link}
 use Rattle.network.specs.declared.link.Link.TheVariants.{Book, Floor, Posted}
-use Rattle.network.specs.Links.{HasWord}
+use Rattle.network.specs.Links.{HasWord, Names}
 use Rattle.plans.specs.Rows.{exact_of}
-use Rattle.plans.specs.Conflicts.{NamesOf, Named}
+use Rattle.plans.specs.Conflicts.{Named}
 
 -- words other than zero, each at its place, begin the list
 pub begins : (list words : List ℕ) → All (λ w. 0 < w) words
@@ -34,7 +34,7 @@ module _ {k : Kind} {book : List Row} {posted : Row} (w : ℕ) (b : ExactBound k
   pub first_is_posted : Named k book (posted ∷ []) w b → w ≡ 3 * 2 ^ 30 → b ≡ exact_of k posted
   first_is_posted named e = by (named.link) named.word named.names
     where
-      by : (l : Link) → HasWord l w → NamesOf k (map (exact_of k) book) (exact_of k posted ∷ []) l b → b ≡ exact_of k posted
+      by : (l : Link) → HasWord l w → Names k (map (exact_of k) book) (exact_of k posted ∷ []) l b → b ≡ exact_of k posted
       by (Book number) h names = absurd (omega (arith, h.room, h.value))
       by (Floor point) h names = absurd (omega (arith, h.room, h.value))
       by Posted h names = cc
@@ -42,7 +42,7 @@ module _ {k : Kind} {book : List Row} {posted : Row} (w : ℕ) (b : ExactBound k
   pub which : Named k book (posted ∷ []) w b → Which k book posted w b
   which named = by (named.link) named.word named.names
     where
-      by : (l : Link) → HasWord l w → NamesOf k (map (exact_of k) book) (exact_of k posted ∷ []) l b → Which k book posted w b
+      by : (l : Link) → HasWord l w → Names k (map (exact_of k) book) (exact_of k posted ∷ []) l b → Which k book posted w b
       by (Book number) h names = of_book number names (omega (arith, h.value))
       by (Floor point) h names = of_floor point names (omega (arith, h.value))
       by Posted h names = of_posted (cc)

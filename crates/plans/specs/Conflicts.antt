@@ -1,25 +1,18 @@
 -- The chain of a conflict, as words on the caller's list. Assumes nothing.
-use Rattle.std.specs.Prelude.{◌≡◌, ℕ, ◌*◌, ◌^◌, ◌<◌, ◌≤◌, ◌⊎◌, List, [], ◌∷◌, ◌++◌, map, length, drop, slice_index, slice_index_or}
+use Rattle.std.specs.Prelude.{◌≡◌, ℕ, ◌*◌, ◌^◌, ◌<◌, ◌≤◌, ◌⊎◌, List, [], ◌++◌, map, length, drop, slice_index, slice_index_or}
 use Rattle.bounds.specs.declared.row.Row.{Row}
 use Rattle.delays.specs.Kind.{Kind}
 use Rattle.network.specs.declared.link.Link.{Link}
-use Rattle.network.specs.declared.link.Link.TheVariants.{Book, Floor, Posted}
-use Rattle.network.specs.Bounds.{ExactBound, Bounds, Numbered, floor_of}
+use Rattle.network.specs.Bounds.{ExactBound, Bounds, floor_of}
 use Rattle.network.specs.Chains.{ChainIn}
-use Rattle.network.specs.Links.{HasWord}
+use Rattle.network.specs.Links.{HasWord, Names}
 use Rattle.plans.specs.Rows.{exact_of, force}
-
--- the bound that a link names, where a book has these bounds and at most one is posted to it
-abbrev pub NamesOf : (k : Kind) → Bounds k → Bounds k → Link → ExactBound k → Type 0
-NamesOf k book posted (Book number) b = Numbered book number b
-NamesOf k book posted (Floor point) b = b ≡ floor_of k point
-NamesOf k book posted Posted b = posted ≡ b ∷ []
 
 -- the word names the bound: 01 and the bound's number in the book, 10 and the floor's point, or 11 for the posted bound
 pub record Named (k : Kind) (book posted : List Row) (w : ℕ) (b : ExactBound k) : Type 0 where
   pub link : Link
   pub word : HasWord link w
-  pub names : NamesOf k (map (exact_of k) book) (map (exact_of k) posted) link b
+  pub names : Names k (map (exact_of k) book) (map (exact_of k) posted) link b
 
 -- the first c words of the list name a chain, which begins with the posted bound where there is one, and the rest of the list is as it was
 pub record ChainWritten (k : Kind) (n : ℕ) (book posted : List Row) (before after : List ℕ) (c : ℕ) : Type 0 where

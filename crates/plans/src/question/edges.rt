@@ -3,9 +3,8 @@ ghost use Rattle.std.specs.Prelude.{◌≡◌, ◌+◌, ◌<◌, ◌≤◌, ◌^
 ghost use Rattle.std.specs.List.{slice_get};
 ghost use Rattle.delays.specs.Kind.{Kind, Unread};
 ghost use Rattle.network.specs.Edges.{bound_of};
-ghost use Rattle.network.specs.Links.{low_bits};
+ghost use Rattle.network.specs.Links.{Names, low_bits};
 ghost use Rattle.plans.specs.Rows.{Fit, exact_of};
-ghost use Rattle.plans.specs.Conflicts.{NamesOf};
 ghost use Rattle.plans.specs.Questions.{book_rows, posted_rows, question_rows, in_question, numbered};
 
 use crate::question::Question;
@@ -80,7 +79,7 @@ impl<'a, B: Book> Question<'a, B> {
     pub(crate) fn link(&self, number: usize) -> Link
         requires few { self.now.points ≤ 128 }
         requires number { number < length (question_rows B.meaning self.now) + self.now.points }
-        ensures names { (k : Kind) → NamesOf k (map (exact_of k) (book_rows B.meaning self.now)) (map (exact_of k) (posted_rows self.now.posted)) result
+        ensures names { (k : Kind) → Names k (map (exact_of k) (book_rows B.meaning self.now)) (map (exact_of k) (posted_rows self.now.posted)) result
             (numbered (in_question B.meaning k self.now) number) }
         ensures posted { number ≡ length (book_rows B.meaning self.now) → (posted_rows self.now.posted ≡ []) ⊎ (result ≡ Link.Posted) }
         ensures room { low_bits result < 2 ^ 30 }
