@@ -1,7 +1,7 @@
 // How long a script may be, and how short an output.
-use crate::setups::{lists_in, refuses_in};
+use crate::setups::{lists_in, prints, refuses_in};
 use faults::{Fault, Layer};
-use scripts::{ScriptFault, printed};
+use scripts::ScriptFault;
 use std::test::Fail;
 
 #[test]
@@ -54,16 +54,15 @@ fn the_longest_scripts(rt: HostRuntime) -> Result<(), Fail> {
 #[test]
 fn what_the_program_prints(rt: HostRuntime) -> Result<(), Fail> {
     let heap = rt.alloc();
-    assert_eq!(rt; printed(heap, b"")?.as_slice(), b"".as_slice());
-    assert_eq!(rt; printed(heap, b"T 1\nW 0")?.as_slice(), b"1 S 0\n2 W 0 0 0 0\n".as_slice());
-    let mut script = vec![in heap; b'\n'; 1_024]?;
-    assert!(rt; printed(heap, script.as_slice())?.as_slice().ends_with(b"\n1024 E 12 L 0\n"));
-    script.push(b'\n')?;
-    assert_eq!(rt; printed(heap, script.as_slice())?.as_slice(), b"E 14 L 0\n".as_slice());
-    let mut script = vec![in heap; b'W'; 32_768]?;
-    assert_eq!(rt; printed(heap, script.as_slice())?.as_slice(), b"1 E 12 L 0\n".as_slice());
+    prints(&rt, b"", "");
+    prints(&rt, b"T 1\nW 0", "1 S 0\n2 W 0 0 0 0\n");
+    let mut script = vec![in heap; b'\n'; 1_025]?;
+    prints(&rt, script.as_slice(), "E 14 L 0\n");
+    script.clear();
+    script.resize(32_768, b'W')?;
+    prints(&rt, script.as_slice(), "1 E 12 L 0\n");
     script.push(b'W')?;
-    assert_eq!(rt; printed(heap, script.as_slice())?.as_slice(), b"E 14 L 0\n".as_slice());
+    prints(&rt, script.as_slice(), "E 14 L 0\n");
     Ok(())
 }
 

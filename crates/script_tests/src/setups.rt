@@ -1,4 +1,5 @@
 // Calls with an output whose bytes are known before them, and what the call must do to it.
+use scripts::program::{OUTPUT_BYTES, print_into};
 use scripts::{ScriptFault, list};
 use std::alloc::Global;
 use std::process::Abort;
@@ -46,4 +47,11 @@ pub(crate) fn list_each(
         lists_in(rt, heap, 1_024, script.as_bytes(), listing)?;
     }
     Ok(())
+}
+
+// The program prints this of a text that begins with the input.
+pub(crate) fn prints(rt: &impl Abort, input: &[u8], printed: &str) {
+    let mut output = [BEFORE; OUTPUT_BYTES];
+    let length = print_into(input, &mut output);
+    assert_eq!(rt; &output[..length], printed.as_bytes());
 }

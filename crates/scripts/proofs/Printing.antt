@@ -1,6 +1,6 @@
 -- What is printed of a text is known from its first 32,769 bytes. Assumes nothing.
-use Rattle.std.proofs.Common.{◌≡◌, ℕ, ◌*◌, ◌<◌, ◌≤◌, ◌⊎◌, List, [], ◌++◌, is_ok, if◌then◌else◌, OnOk, Result, length, take, drop, ap, sym, ◌∙◌, subst, inl, inr, Ok, Err, arith}
-use Rattle.std.proofs.lemmas.List.{length-take-le, take_all, take-take, take_at, append_assoc}
+use Rattle.std.proofs.Common.{◌≡◌, ℕ, ◌*◌, ◌<◌, ◌≤◌, ◌⊎◌, List, length, take, drop, ap, sym, ◌∙◌, subst, inl, inr, Ok, Err, arith}
+use Rattle.std.proofs.lemmas.List.{length-take-le, take_all, take_at}
 use Rattle.std.proofs.lemmas.Bool.{cases_lt}
 use Rattle.scripts.specs.declared.fault.ScriptFault.{ScriptFault}
 use Rattle.scripts.specs.Lines.{script_lines}
@@ -16,23 +16,19 @@ module _ (text input : List ℕ) (read : input ≡ take 32769 text) where
   longer : 32769 ≤ length text → length input ≡ 32769
   longer many = ap length read ∙ length-take-le 32769 text many
 
-  -- the listing, at the front of a vector of m bytes
-  pub prints_listing : (before after rest : List ℕ) (n m : ℕ) → length before ≡ 65536 → n ≤ m → Listed input before after (Ok n)
-      → Printed text (take n (take m (after ++ rest)))
-  prints_listing before after rest n m room inside h = inl (go (cases_lt (length text) 32769))
+  -- the listing
+  pub prints_listing : (before after : List ℕ) (n : ℕ) → length before ≡ 65536 → Listed input before after (Ok n) → Printed text (take n after)
+  prints_listing before after n room h = inl (go (cases_lt (length text) 32769))
     where
-      shown : take n (take m (after ++ rest)) ≡ h.2.0
-      shown =
-          take-take n m (after ++ rest) inside ∙ ap (λ xs. take n (xs ++ rest)) h.2.3 ∙ ap (take n) (append_assoc h.2.0 (drop n before) rest)
-          ∙ take_at h.2.0 (drop n before ++ rest) n (sym h.2.2)
-      go : (length text < 32769) ⊎ (32769 ≤ length text)
-          → (length text ≤ 32768) × (length (script_lines text) ≤ 1024) × ListingOf text (take n (take m (after ++ rest)))
+      shown : take n after ≡ h.2.0
+      shown = ap (take n) h.2.3 ∙ take_at h.2.0 (drop n before) n (sym h.2.2)
+      go : (length text < 32769) ⊎ (32769 ≤ length text) → (length text ≤ 32768) × (length (script_lines text) ≤ 1024) × ListingOf text (take n after)
       go (inl few) =
           let same : input ≡ text = whole (omega (arith, few)) in
           (
             omega (arith, few),
             subst (λ (t : List ℕ). length (script_lines t) ≤ 1024) same (omega (arith, h.1, room)),
-            subst (λ (t : List ℕ). ListingOf t (take n (take m (after ++ rest)))) same (subst (ListingOf input) (sym shown) h.2.1),
+            subst (λ (t : List ℕ). ListingOf t (take n after)) same (subst (ListingOf input) (sym shown) h.2.1),
           )
       go (inr many) = absurd (omega (arith, h.0, longer many))
 
@@ -47,9 +43,3 @@ module _ (text input : List ℕ) (read : input ≡ take 32769 text) where
       go (inl few) (inr lines) =
           inr (subst (λ (t : List ℕ). 1024 < length (script_lines t)) (whole (omega (arith, few))) (omega (arith, lines, room)))
       go (inr many) h = inl (omega (arith, many))
-
--- what is appended to nothing is all
-pub appended : {E : Type 0} (r : Result (Unit {0}) E) (was now more : List ℕ) → was ≡ [] → now ≡ (if is_ok r then was ++ more else was)
-    → OnOk r (now ≡ more)
-appended (Ok u) was now more none is = is ∙ ap (λ xs. xs ++ more) none
-appended (Err e) was now more none is = tt

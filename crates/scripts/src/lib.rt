@@ -15,4 +15,4 @@ pub use answer::Answer;
 pub use command::{Command, command_of};
 pub use fault::ScriptFault;
 pub use listing::list;
-pub use program::printed;
+pub use program::print_into;
