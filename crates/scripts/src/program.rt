@@ -1,5 +1,5 @@
 // What the program `vatcowslip` prints.
-ghost use Rattle.std.specs.Prelude.{◌≡◌, ◌≤◌, ℕ, List, take};
+ghost use Rattle.std.specs.Prelude.{◌≡◌, ◌≤◌, ℕ, List, take, drop};
 ghost use Rattle.scripts.specs.Prints.{Printed};
 
 use crate::listing::list;
@@ -10,10 +10,12 @@ pub const INPUT_BYTES: u64 = 32_769;
 // 64 bytes for each of 1,024 lines.
 pub const OUTPUT_BYTES: usize = 65_536;
 
-// Writes at the start of the output what the program prints of a text, and answers its length. It is given the first 32,769 bytes of the text, or
-// all where it has fewer. It prints the listing; or, where the text has more than 32,768 bytes or 1,024 lines, the one line of fault 14.
+// Writes at the start of the output what the program prints of a text, answers its length, and leaves the rest of the output as it was. It is
+// given the first 32,769 bytes of the text, or all where it has fewer. It prints the listing; or, where the text has more than 32,768 bytes or 1,024
+// lines, the one line of fault 14.
 pub fn print_into(input: &[u8], output: &mut [u8; OUTPUT_BYTES]) -> usize
     ensures printed { (text : List ℕ) → input.now ≡ take 32769 text → Printed text (take result output.new) }
+    ensures rest { drop result output.new ≡ drop result output.old }
     ensures fits { result ≤ 65536 }
 {
     match list(input, output) {
