@@ -60,7 +60,7 @@ fn random(draws: &mut Draws, points: u8) -> Result<Bound, BoundFault> {
     met(left, right, SPAN.saturating_add(slack))
 }
 
-// The bound that so many others follow. The hops come last and the last of them first, so that a pass over the bounds moves the path by one hop.
+// The bound that so many others follow. The hops come last, the last of them first; a round of relaxation moves their path by one hop in any order.
 fn bound(draws: &mut Draws, points: u8, after: u16) -> Result<Bound, BoundFault> {
     match u8::try_from(after) {
         Ok(left) if left < points.saturating_sub(1) => hop(left),
