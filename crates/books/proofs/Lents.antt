@@ -1,5 +1,6 @@
 -- What adding and cutting make of the rows in lent words, and which rows an accepted buffer holds. Assumes nothing.
-use Rattle.std.proofs.Common.{◌≡◌, ℕ, zero, suc, ◌+◌, ◌*◌, ◌<◌, ◌≤◌, ◌⊎◌, List, [], ◌∷◌, ◌++◌, length, get_or, take, drop, Ok, Err, Result, sym, refl, ap, ◌∙◌, subst, inl, inr, arith}
+use Rattle.std.proofs.Common.{◌≡◌, ℕ, zero, suc, ◌+◌, ◌*◌, ◌<◌, ◌≤◌, ◌⊎◌, List, [], ◌∷◌, ◌++◌, length, get_or, take, drop, Ok, Err, Result, sym}
+use Rattle.std.proofs.Common.{refl, ap, ◌∙◌, subst, inl, inr, arith}
 use Rattle.std.proofs.lemmas.List.{length-take, length-append, take-take}
 use Rattle.std.proofs.lemmas.List.FromFn.{fill_by_all, map-range_with_len_more, take-map-range_with_len, length-map-range_with_len}
 use Rattle.std.proofs.lemmas.Bool.{cases_lt}
@@ -55,7 +56,8 @@ module _ (ws vs : List ℕ) (c : Counts) (fit : Fit ws c) where
     add_meaning =
         let n = c.fixed + c.added in
         let before = put_before ws vs c.places n row fit.room free made in
-        same_meaning _ _ (same_rows ws vs n before 0 c.fixed (omega arith)) (put_rows ws vs c.places n row fit.room free made c.fixed c.added refl sound) (omega arith)
+        same_meaning _ _ (same_rows ws vs n before 0 c.fixed (omega arith))
+          (put_rows ws vs c.places n row fit.room free made c.fixed c.added refl sound) (omega arith)
 
   module _ (k : ℕ) (few : k ≤ c.added) (made : vs ≡ ended c.places ws (c.fixed + k)) where
     cut_before : take (3 * (c.fixed + k)) vs ≡ take (3 * (c.fixed + k)) ws
@@ -94,7 +96,8 @@ module _ (ws : List ℕ) (rows : List Row) (h : Holds rows (take 196605 ws)) whe
 
   held_words : (i : ℕ) (r : Row) → i < length rows → words_at ws i ≡ row_words (get_or rows i r)
   held_words i r l =
-      let same : take (3 * length rows) (take 196605 ws) ≡ take (3 * length rows) ws = take-take (3 * length rows) 196605 ws (omega (arith, used_long, length-take 196605 ws)) in
+      let same : take (3 * length rows) (take 196605 ws) ≡ take (3 * length rows) ws =
+          take-take (3 * length rows) 196605 ws (omega (arith, used_long, length-take 196605 ws)) in
       sym (same_words ws (take 196605 ws) (length rows) same i l) ∙ ap (λ vs. words_at vs i) h.cut ∙ word_in rows h.after i r l
 
   pub held_bounds : BoundsIn ws (length rows)

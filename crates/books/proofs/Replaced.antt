@@ -31,10 +31,12 @@ module _ (places : ℕ) (ws : List ℕ) (n : ℕ) (room : 3 * places ≤ length 
   inside h = omega arith
 
   pub length-ended : length (ended places ws n) ≡ length ws
-  length-ended = cond_both (ltb n places) _ ws (λ vs. length vs ≡ length ws) (λ e. length-replaced ws (0 ∷ []) (3 * n) (inside (ltb-true n places e))) (λ e. refl)
+  length-ended = cond_both (ltb n places) _ ws (λ vs. length vs ≡ length ws)
+      (λ e. length-replaced ws (0 ∷ []) (3 * n) (inside (ltb-true n places e))) (λ e. refl)
 
   pub take-ended : (k : ℕ) → k ≤ 3 * n → take k (ended places ws n) ≡ take k ws
-  take-ended k h = cond_both (ltb n places) _ ws (λ vs. take k vs ≡ take k ws) (λ e. take_before-replaced ws (0 ∷ []) (3 * n) (inside (ltb-true n places e)) k h) (λ e. refl)
+  take-ended k h = cond_both (ltb n places) _ ws (λ vs. take k vs ≡ take k ws)
+      (λ e. take_before-replaced ws (0 ∷ []) (3 * n) (inside (ltb-true n places e)) k h) (λ e. refl)
 
   pub drop-ended : (k : ℕ) → 3 * places ≤ k → drop k (ended places ws n) ≡ drop k ws
   drop-ended k h =

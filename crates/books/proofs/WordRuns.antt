@@ -1,5 +1,6 @@
 -- Whatever calls a word book goes through, its words hold its bounds. Assumes nothing.
-use Rattle.std.proofs.Common.{◌≡◌, ℕ, zero, suc, ◌+◌, ◌-◌, ◌*◌, ◌%◌, ◌<◌, ◌≤◌, Bool, true, false, ◌⊎◌, List, [], ◌∷◌, ◌++◌, length, get_or, take, drop, Ok, Err, Result, sym, refl, ap, ◌∙◌, subst, inl, inr, arith}
+use Rattle.std.proofs.Common.{◌≡◌, ℕ, zero, suc, ◌+◌, ◌-◌, ◌*◌, ◌%◌, ◌<◌, ◌≤◌, Bool, true, false, ◌⊎◌, List, [], ◌∷◌, ◌++◌, length, get_or, take}
+use Rattle.std.proofs.Common.{drop, Ok, Err, Result, sym, refl, ap, ◌∙◌, subst, inl, inr, arith}
 use Rattle.std.proofs.Math.Seq.{take-add}
 use Rattle.std.proofs.lemmas.List.FromFn.{length-map-range_with_len, map-range_with_len_more}
 use Rattle.std.proofs.lemmas.List.{flat_map_more, get_or-drop, get_or_past, get_or-take, length_push, length-take, length-take-le, take-append-drop, take-take}
@@ -136,7 +137,8 @@ module _ (ws : List ℕ) (whole : length ws % 3 ≡ 0) where
       let some : n ≤ p = omega arith in
       let fixed : c.counts.fixed ≡ b.counts.fixed = fixed_is c ∙ ap (λ x. length x.fixed) m ∙ sym (fixed_is b) in
       let added : c.counts.added ≡ k = added_is c ∙ ap (λ x. length x.added) m ∙ length-take-le k (meaning_of b).added h in
-      let left : c.counts.places - (c.counts.fixed + c.counts.added) ≡ p - (b.counts.fixed + b.counts.added) + (length (meaning_of b).added - k) = ap (λ x. x.free) m in
+      let left : c.counts.places - (c.counts.fixed + c.counts.added) ≡ p - (b.counts.fixed + b.counts.added) + (length (meaning_of b).added - k) =
+          ap (λ x. x.free) m in
       record {
         long = ap length made ∙ length-ended p vs n room ∙ long;
         beyond = ap (drop 196605) made ∙ drop-ended p vs n room 196605 (omega arith) ∙ i.beyond;

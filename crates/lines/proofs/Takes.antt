@@ -1,5 +1,6 @@
 -- Values that are taken one by one from the fields of a line. Assumes nothing.
-use Rattle.std.proofs.Common.{◌≡◌, ℕ, suc, ◌+◌, ◌-◌, ◌<◌, List, [], ◌∷◌, ◌++◌, length, take, drop, set, Ok, Err, Some, Option, Result, refl, ap, sym, ◌∙◌, inl, inr}
+use Rattle.std.proofs.Common.{◌≡◌, ℕ, suc, ◌+◌, ◌-◌, ◌<◌, List, [], ◌∷◌, ◌++◌, length, take, drop, set, Ok, Err, Some, Option, Result, refl, ap, sym}
+use Rattle.std.proofs.Common.{◌∙◌, inl, inr}
 use Rattle.std.proofs.Common.{append_assoc, add-one, arith}
 use Rattle.std.proofs.lemmas.List.{drop-drop, take_more_set}
 use Rattle.lines.specs.declared.fault.LineFault.{LineFault}

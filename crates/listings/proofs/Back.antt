@@ -1,5 +1,6 @@
 -- What is printed for a bound is read as that bound. Assumes nothing.
-use Rattle.std.proofs.Common.{true, ◌≡◌, ℕ, zero, suc, ◌+◌, ◌/◌, ◌%◌, ◌^◌, ◌<◌, ◌≤◌, List, [], ◌∷◌, ◌++◌, ℤ, pos, negsuc, Some, Ok, decimal, sym, refl, ap, ◌∙◌, pow-suc, arith}
+use Rattle.std.proofs.Common.{true, ◌≡◌, ℕ, zero, suc, ◌+◌, ◌/◌, ◌%◌, ◌^◌, ◌<◌, ◌≤◌, List, [], ◌∷◌, ◌++◌, ℤ, pos, negsuc, Some, Ok, decimal, sym}
+use Rattle.std.proofs.Common.{refl, ap, ◌∙◌, pow-suc, arith}
 use native.Mathlib.Nat.{div-div-eq-div-mul}
 use lib.Signed.{mag}
 use Rattle.std.specs.Fmt.{digit_glyph}
@@ -80,7 +81,8 @@ words_back : (r : Row) → Sound r → readings word 1 3 (fields (words_text (ro
 words_back r i =
     let t = twos_small r.t i.2 in
     let s = twos_small r.s i.3 in
-    readings_more word 1 2 (hex_text (head_word r.left r.right)) (hex_text (part_word 2 r.t) ++ (32 ∷ hex_text (part_word 3 r.s))) _ _ (hex_writes _ (omega arith))
+    readings_more word 1 2 (hex_text (head_word r.left r.right)) (hex_text (part_word 2 r.t) ++ (32 ∷ hex_text (part_word 3 r.s))) _ _
+        (hex_writes _ (omega arith))
     (readings_more word 2 1 (hex_text (part_word 2 r.t)) (hex_text (part_word 3 r.s)) _ _ (hex_writes _ (omega arith))
     (readings_last word 3 (hex_text (part_word 3 r.s)) _ (hex_writes _ (omega arith))))
 
@@ -99,7 +101,10 @@ numbers_no_note r i = decimal_no_note r.left _ (omega arith)
 -- what is printed for a bound is read as that bound
 pub text_returns : TextReturns
 text_returns b = (
-  (hex_no_note (head_word (row_of b).left (row_of b).right) (32 ∷ (hex_text (part_word 2 (row_of b).t) ++ (32 ∷ hex_text (part_word 3 (row_of b).s)))), words_back (row_of b) b.sound),
+  (
+    hex_no_note (head_word (row_of b).left (row_of b).right) (32 ∷ (hex_text (part_word 2 (row_of b).t) ++ (32 ∷ hex_text (part_word 3 (row_of b).s)))),
+    words_back (row_of b) b.sound,
+  ),
   (
     numbers_no_note (row_of b) b.sound,
     (

@@ -1,5 +1,6 @@
 -- The input in pieces: what one byte does, and how two pieces join. Assumes nothing.
-use Rattle.std.proofs.Common.{◌≡◌, ℕ, ◌+◌, ◌<◌, List, [], ◌∷◌, ◌++◌, length, get_or, take, Ok, Err, Result, sym, refl, ap, ◌∙◌, subst, append_assoc, append-nil, arith, lit≤}
+use Rattle.std.proofs.Common.{◌≡◌, ℕ, ◌+◌, ◌<◌, List, [], ◌∷◌, ◌++◌, length, get_or, take, Ok, Err, Result, sym, refl, ap, ◌∙◌, subst, append_assoc}
+use Rattle.std.proofs.Common.{append-nil, arith, lit≤}
 use Rattle.std.proofs.lemmas.List.Elements.{All-nil, All-cons, All-append, All-push}
 use Rattle.std.proofs.lemmas.List.{get_or-take, take_more}
 use Rattle.bounds.specs.declared.bound.Bound.{Bound as BoundT}
@@ -101,7 +102,11 @@ pub follows_byte : (before after : Tool) (b : ℕ) (text : List ℕ) → (b ≡ 
 follows_byte before after b text other none task tally front = record {
   task = task;
   goes = λ part h.
-      (part ++ (b ∷ []), (All-push Plain part b h.0 other, front part h.1), record { lines = []; cut = refl; whole = All-nil OneLine; answers = (none, tally) });
+      (
+        part ++ (b ∷ []),
+        (All-push Plain part b h.0 other, front part h.1),
+        record { lines = []; cut = refl; whole = All-nil OneLine; answers = (none, tally) },
+      );
 }
 
 -- a line feed, which ends the line
@@ -116,7 +121,14 @@ follows_line before after b text feed task none tells = record {
       lines = part ∷ [];
       cut = ap (λ x. part ++ (x ∷ [])) feed ∙ (sym (append-nil (part ++ (10 ∷ []))) ∙ sym (append-nil ((part ++ (10 ∷ [])) ++ [])));
       whole = All-cons OneLine part [] h.0 (All-nil OneLine);
-      answers = (text, [], after.tally, sym (append-nil text), tells_whole before.task before.tally after.tally (kept before.line) part text h.1 tells, (refl, refl));
+      answers = (
+        text,
+        [],
+        after.tally,
+        sym (append-nil text),
+        tells_whole before.task before.tally after.tally (kept before.line) part text h.1 tells,
+        (refl, refl),
+      );
     },
   );
 }
