@@ -2,40 +2,60 @@
 use crate::setups::{lists_in, refuses_in};
 use faults::{Fault, Layer};
 use scripts::{ScriptFault, printed};
+use std::alloc::Global;
+use std::process::Abort;
 use std::test::Fail;
 
+// An output of so many bytes gets a listing, or is refused.
 #[test]
 fn outputs_of_64_bytes_a_line(rt: HostRuntime) -> Result<(), Fail> {
-    let heap = rt.alloc();
-    lists_in(&rt, heap, 0, b"", "")?;
-    refuses_in(&rt, heap, 0, b"T 1")?;
-    refuses_in(&rt, heap, 63, b"T 1")?;
-    lists_in(&rt, heap, 64, b"T 1", "1 S 0\n")?;
-    refuses_in(&rt, heap, 63, b"T 1\n")?;
-    lists_in(&rt, heap, 64, b"T 1\n", "1 S 0\n")?;
-    refuses_in(&rt, heap, 64, b"T 1\nW 0")?;
-    refuses_in(&rt, heap, 127, b"T 1\nW 0")?;
-    lists_in(&rt, heap, 128, b"T 1\nW 0", "1 S 0\n2 W 0 0 0 0\n")?;
-    refuses_in(&rt, heap, 127, b"\n\n")?;
-    lists_in(&rt, heap, 128, b"\n\n", "1 E 12 L 0\n2 E 12 L 0\n")
+    let table = [
+        (0, "", Some("")),
+        (0, "T 1", None),
+        (63, "T 1", None),
+        (64, "T 1", Some("1 S 0\n")),
+        (63, "T 1\n", None),
+        (64, "T 1\n", Some("1 S 0\n")),
+        (64, "T 1\nW 0", None),
+        (127, "T 1\nW 0", None),
+        (128, "T 1\nW 0", Some("1 S 0\n2 W 0 0 0 0\n")),
+        (127, "\n\n", None),
+        (128, "\n\n", Some("1 E 12 L 0\n2 E 12 L 0\n")),
+    ];
+    for (room, script, listing) in table {
+        match listing {
+            Some(listing) => lists_in(&rt, rt.alloc(), room, script.as_bytes(), listing)?,
+            None => refuses_in(&rt, rt.alloc(), room, script.as_bytes())?,
+        }
+    }
+    Ok(())
+}
+
+// A script of so many empty lines, and its listing.
+fn empty_lines(heap: Global, count: usize) -> Result<(Vec<u8>, String), Fail> {
+    let script = vec![in heap; b'\n'; count]?;
+    let mut listing = String::new(heap);
+    for number in 0..count {
+        listing.push_str(format!(in heap; "{} E 12 L 0\n", number + 1)?.as_str())?;
+    }
+    Ok((script, listing))
 }
 
 // An output of 65,536 bytes is enough for 1,024 lines.
 #[test]
 fn lines_with_nothing_in_them(rt: HostRuntime) -> Result<(), Fail> {
     let heap = rt.alloc();
-    let mut script = Vec::new(heap);
-    let mut listing = String::new(heap);
-    for number in 1..1_025 {
-        script.push(b'\n')?;
-        listing.push_str(format!(in heap; "{number} E 12 L 0\n")?.as_str())?;
-    }
+    let (script, listing) = empty_lines(heap, 1_024)?;
     refuses_in(&rt, heap, 65_535, script.as_slice())?;
-    lists_in(&rt, heap, 65_536, script.as_slice(), listing.as_str())?;
-    script.push(b'\n')?;
+    lists_in(&rt, heap, 65_536, script.as_slice(), listing.as_str())
+}
+
+#[test]
+fn one_line_more_with_nothing_in_it(rt: HostRuntime) -> Result<(), Fail> {
+    let heap = rt.alloc();
+    let (script, listing) = empty_lines(heap, 1_025)?;
     refuses_in(&rt, heap, 65_536, script.as_slice())?;
     refuses_in(&rt, heap, 65_599, script.as_slice())?;
-    listing.push_str("1025 E 12 L 0\n")?;
     lists_in(&rt, heap, 65_600, script.as_slice(), listing.as_str())
 }
 
@@ -50,21 +70,44 @@ fn the_longest_scripts(rt: HostRuntime) -> Result<(), Fail> {
     refuses_in(&rt, heap, 100_000, script.as_slice())
 }
 
-// The program has room for 1,024 lines, and tells by one line that a text has more, or more than 32,768 bytes.
+// The program prints text that ends so.
+fn prints_end(rt: &impl Abort, heap: Global, script: &[u8], end: &[u8]) -> Result<(), Fail> {
+    assert!(rt; printed(heap, script)?.as_slice().ends_with(end));
+    Ok(())
+}
+
+// The program prints this text for the script.
+fn prints(rt: &impl Abort, heap: Global, script: &[u8], text: &[u8]) -> Result<(), Fail> {
+    assert_eq!(rt; printed(heap, script)?.as_slice(), text);
+    Ok(())
+}
+
 #[test]
 fn what_the_program_prints(rt: HostRuntime) -> Result<(), Fail> {
     let heap = rt.alloc();
-    assert_eq!(rt; printed(heap, b"")?.as_slice(), b"".as_slice());
-    assert_eq!(rt; printed(heap, b"T 1\nW 0")?.as_slice(), b"1 S 0\n2 W 0 0 0 0\n".as_slice());
-    let mut script = vec![in heap; b'\n'; 1_024]?;
-    assert!(rt; printed(heap, script.as_slice())?.as_slice().ends_with(b"\n1024 E 12 L 0\n"));
-    script.push(b'\n')?;
-    assert_eq!(rt; printed(heap, script.as_slice())?.as_slice(), b"E 14 L 0\n".as_slice());
-    let mut script = vec![in heap; b'W'; 32_768]?;
-    assert_eq!(rt; printed(heap, script.as_slice())?.as_slice(), b"1 E 12 L 0\n".as_slice());
-    script.push(b'W')?;
-    assert_eq!(rt; printed(heap, script.as_slice())?.as_slice(), b"E 14 L 0\n".as_slice());
-    Ok(())
+    prints(&rt, heap, b"", b"")?;
+    prints(&rt, heap, b"T 1\nW 0", b"1 S 0\n2 W 0 0 0 0\n")
+}
+
+// The program has room for 1,024 lines, and tells by one line that a text has more, or more than 32,768 bytes.
+#[test]
+fn what_the_program_prints_of_the_longest_scripts(rt: HostRuntime) -> Result<(), Fail> {
+    let heap = rt.alloc();
+    let too_long = b"E 14 L 0\n";
+    prints_end(
+        &rt,
+        heap,
+        vec![in heap; b'\n'; 1_024]?.as_slice(),
+        b"\n1024 E 12 L 0\n",
+    )?;
+    prints(&rt, heap, vec![in heap; b'\n'; 1_025]?.as_slice(), too_long)?;
+    prints(
+        &rt,
+        heap,
+        vec![in heap; b'W'; 32_768]?.as_slice(),
+        b"1 E 12 L 0\n",
+    )?;
+    prints(&rt, heap, vec![in heap; b'W'; 32_769]?.as_slice(), too_long)
 }
 
 #[test]
