@@ -3,3 +3,5 @@
 
 #[cfg(test)]
 mod book_edges;
+#[cfg(test)]
+mod calls;

@@ -1,8 +1,10 @@
-// Tests at the edges of bounds, words and the tool, apart from the crates so that those are not proved twice.
+// Tests at the edges of bounds, lines, words and the tool, apart from the crates so that those are not proved twice.
 #![tactic(auto)]
 
 #[cfg(test)]
 mod bounds_edges;
+#[cfg(test)]
+mod lines_edges;
 #[cfg(test)]
 mod tool_runs;
 #[cfg(test)]

@@ -4,17 +4,22 @@ use std::alloc::Global;
 use std::process::Abort;
 use std::test::Fail;
 
+// What the tool prints for an input that comes in two pieces.
+fn in_two(heap: Global, task: Task, first: &[u8], second: &[u8]) -> Result<String, Fail> {
+    let mut tool = Tool::new(task);
+    let mut out = tool.feed(heap, first)?;
+    out.push_str(tool.feed(heap, second)?.as_str())?;
+    out.push_str(tool.finish(heap)?.text.as_str())?;
+    Ok(out)
+}
+
 // The tool prints this text for the input, however the input is cut in two.
 fn prints(rt: &impl Abort, heap: Global, task: Task, input: &[u8], text: &str) -> Result<(), Fail> {
     assert_eq!(rt; run(heap, task, input)?.text.as_str(), text);
     // each cut lies between two bytes, so it is a number and no element
     for cut in 0..input.len() {
         let (first, second) = input.split_at(cut);
-        let mut tool = Tool::new(task);
-        let mut out = tool.feed(heap, first)?;
-        out.push_str(tool.feed(heap, second)?.as_str())?;
-        out.push_str(tool.finish(heap)?.text.as_str())?;
-        assert_eq!(rt; out.as_str(), text);
+        assert_eq!(rt; in_two(heap, task, first, second)?.as_str(), text);
     }
     Ok(())
 }
@@ -99,30 +104,28 @@ fn refused_words(rt: HostRuntime) -> Result<(), Fail> {
     )
 }
 
+// A line that begins so, and goes on with one byte ten thousand times.
+fn push_long(input: &mut Vec<u8>, front: &[u8], byte: u8) -> Result<(), Fail> {
+    input.extend_from_slice(front)?;
+    for _ in 0..10_000 {
+        input.push(byte)?;
+    }
+    Ok(())
+}
+
 // A line that is longer than what is kept of it is decided by its front.
 #[test]
 fn long_lines(rt: HostRuntime) -> Result<(), Fail> {
     let heap = rt.alloc();
     let mut input = Vec::new(heap);
-    input.extend_from_slice(b"0 0 0 ")?;
-    for _ in 0..10_000 {
-        input.push(b'0')?;
-    }
-    input.extend_from_slice(b"\n0 1 -20 0 ")?;
-    for _ in 0..10_000 {
-        input.push(b'0')?;
-    }
-    input.extend_from_slice(b"\n#")?;
-    for _ in 0..10_000 {
-        input.push(0xff)?;
-    }
+    push_long(&mut input, b"0 0 0 ", b'0')?;
+    push_long(&mut input, b"\n0 1 -20 0 ", b'0')?;
+    push_long(&mut input, b"\n#", 0xff)?;
     let ending = run(heap, Task::Write, input.as_slice())?;
-    assert_eq!(rt;
-        ending.text.as_str(),
+    let text =
         "line 1 refused: a field is missing, unreadable or extra (fault 12, layer L, place 4)\n\
          line 2 refused: a field is missing, unreadable or extra (fault 12, layer L, place 5)\n\
-         # lines read: 3, bounds written: 0, notes: 1, refused: 2\n"
-    );
-    assert_eq!(rt; ending.tally.refused, 2);
+         # lines read: 3, bounds written: 0, notes: 1, refused: 2\n";
+    assert_eq!(rt; (ending.text.as_str(), ending.tally.refused), (text, 2));
     Ok(())
 }

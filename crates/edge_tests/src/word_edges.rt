@@ -1,6 +1,7 @@
 // House words at their edges: each word of a row broken in turn, and buffers of every awkward length.
 use bounds::Bound;
 use faults::{Fault, Layer};
+use std::alloc::Global;
 use std::test::Fail;
 use words::{BoundWords, WordFault, check as check_words, round_trip};
 
@@ -23,9 +24,13 @@ fn words_of_bounds(rt: HostRuntime) -> Result<(), Fail> {
     ];
     for ([left, right, t, s], words) in table {
         let bound = Bound::new(left, right, t, s)?;
-        assert_eq!(rt; BoundWords::from(bound), BoundWords(words));
-        assert_eq!(rt; Bound::try_from(BoundWords(words))?, bound);
-        assert_eq!(rt; round_trip(bound)?, bound);
+        let words = BoundWords(words);
+        let told = (
+            BoundWords::from(bound),
+            Bound::try_from(words),
+            round_trip(bound),
+        );
+        assert_eq!(rt; told, (words, Ok(bound), Ok(bound)));
     }
     Ok(())
 }
@@ -51,45 +56,76 @@ fn each_word_broken(rt: HostRuntime) {
     }
 }
 
+// A buffer is the front of nine words.
 #[test]
 fn short_buffers(rt: HostRuntime) {
     let [head, t, s] = ROW;
-    assert_eq!(rt; check_words(&[]), Ok(0));
-    assert_eq!(rt; check_words(&[head]), Err(WordFault::Length { words: 1 }));
-    assert_eq!(rt; check_words(&[0, 0]), Err(WordFault::Length { words: 2 }));
-    assert_eq!(rt;
-        check_words(&[head, t, s, head]),
-        Err(WordFault::Length { words: 4 })
-    );
-    assert_eq!(rt; check_words(&[0, 7, 7]), Ok(0));
-    assert_eq!(rt; check_words(&ROW), Ok(1));
-    assert_eq!(rt; check_words(&[head, t, s, 0, 7, 7]), Ok(1));
-    assert_eq!(rt; check_words(&[head, t, s, 0, 7, 7, 1, 1, 1]), Ok(1));
-    assert_eq!(rt; check_words(&[head, t, s, 7, t, s]), Err(at(3)));
-    assert_eq!(rt; check_words(&[head, t, s, head, s, s]), Err(at(4)));
-    assert_eq!(rt; check_words(&[head, t, s, head, t, t]), Err(at(5)));
+    let table: [([u32; 9], usize, Result<usize, WordFault>); 11] = [
+        ([7; 9], 0, Ok(0)),
+        (
+            [head, 7, 7, 7, 7, 7, 7, 7, 7],
+            1,
+            Err(WordFault::Length { words: 1 }),
+        ),
+        (
+            [0, 0, 7, 7, 7, 7, 7, 7, 7],
+            2,
+            Err(WordFault::Length { words: 2 }),
+        ),
+        (
+            [head, t, s, head, 7, 7, 7, 7, 7],
+            4,
+            Err(WordFault::Length { words: 4 }),
+        ),
+        ([0, 7, 7, 7, 7, 7, 7, 7, 7], 3, Ok(0)),
+        ([head, t, s, 7, 7, 7, 7, 7, 7], 3, Ok(1)),
+        ([head, t, s, 0, 7, 7, 7, 7, 7], 6, Ok(1)),
+        ([head, t, s, 0, 7, 7, 1, 1, 1], 9, Ok(1)),
+        ([head, t, s, 7, t, s, 7, 7, 7], 6, Err(at(3))),
+        ([head, t, s, head, s, s, 7, 7, 7], 6, Err(at(4))),
+        ([head, t, s, head, t, t, 7, 7, 7], 6, Err(at(5))),
+    ];
+    for (words, length, answer) in table {
+        assert_eq!(rt; words.get(..length).map(check_words), Some(answer));
+    }
+}
+
+// Room for so many bounds, full of one bound, and then the words that follow it.
+fn buffer(heap: Global, bounds: usize, after: &[u32]) -> Result<Vec<u32>, Fail> {
+    let mut words = Vec::new(heap);
+    for _ in 0..bounds {
+        words.extend_from_slice(&ROW)?;
+    }
+    words.extend_from_slice(after)?;
+    Ok(words)
 }
 
 #[test]
 fn the_longest_buffers(rt: HostRuntime) -> Result<(), Fail> {
-    let mut words = Vec::new(rt.alloc());
-    for _ in 0..65_534 {
-        words.extend_from_slice(&ROW)?;
+    let heap = rt.alloc();
+    let table: [(usize, &[u32], usize, Result<usize, WordFault>); 4] = [
+        (
+            65_534,
+            &[0x4000_0001, 0x9dcd_6501, 0xc000_0000],
+            196_605,
+            Err(at(196_603)),
+        ),
+        (65_535, &[], 196_605, Ok(65_535)),
+        (65_535, &[7, 7, 7], 196_608, Ok(65_535)),
+        (
+            65_535,
+            &[7, 7, 7, 7],
+            196_609,
+            Err(WordFault::Length { words: 196_609 }),
+        ),
+    ];
+    for (bounds, after, length, answer) in table {
+        let words = buffer(heap, bounds, after)?;
+        assert_eq!(rt;
+            (words.len(), check_words(words.as_slice())),
+            (length, answer)
+        );
     }
-    words.extend_from_slice(&[0x4000_0001, 0x9dcd_6501, 0xc000_0000])?;
-    assert_eq!(rt; words.len(), 196_605);
-    assert_eq!(rt; check_words(words.as_slice()), Err(at(196_603)));
-    words.truncate(196_602);
-    words.extend_from_slice(&ROW)?;
-    assert_eq!(rt; check_words(words.as_slice()), Ok(65_535));
-    words.extend_from_slice(&[7, 7, 7])?;
-    assert_eq!(rt; words.len(), 196_608);
-    assert_eq!(rt; check_words(words.as_slice()), Ok(65_535));
-    words.push(7)?;
-    assert_eq!(rt;
-        check_words(words.as_slice()),
-        Err(WordFault::Length { words: 196_609 })
-    );
     Ok(())
 }
 
@@ -100,6 +136,9 @@ fn faults_of_words(rt: HostRuntime) {
         layer: Layer::Books,
         place: 4,
     };
-    assert_eq!(rt; Fault::from(WordFault::Length { words: 4 }), told);
-    assert_eq!(rt; Fault::from(at(4)), told);
+    let faults = (
+        Fault::from(WordFault::Length { words: 4 }),
+        Fault::from(at(4)),
+    );
+    assert_eq!(rt; faults, (told, told));
 }

@@ -75,16 +75,3 @@ impl<'a> Fields<'a> {
         Ok(values)
     }
 }
-
-#[cfg(test)]
-mod tests {
-    use super::*;
-
-    #[test]
-    fn fields_of_a_line(rt: HostRuntime) {
-        let mut fields = Fields::new(b"a  b ");
-        assert_eq!(rt; fields.next(), Some(b"a".as_slice()));
-        assert_eq!(rt; fields.next(), Some(b"".as_slice()));
-        assert_eq!(rt; fields.count(), 2);
-    }
-}

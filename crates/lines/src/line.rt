@@ -50,23 +50,3 @@ impl Line {
         self.bytes.as_slice()
     }
 }
-
-#[cfg(test)]
-mod tests {
-    use super::*;
-
-    #[test]
-    fn keeps_the_front(rt: HostRuntime) {
-        let mut line = Line::new();
-        assert!(rt; line.is_empty());
-        for b in b'0'..b'p' {
-            line.push(b);
-        }
-        assert_eq!(rt;
-            line.bytes(),
-            b"0123456789:;<=>?@ABCDEFGHIJKLMNOPQRSTUVWXYZ[\\]^_".as_slice()
-        );
-        line.clear();
-        assert!(rt; line.is_empty());
-    }
-}

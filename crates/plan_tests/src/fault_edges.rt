@@ -48,12 +48,13 @@ fn full_book() -> Result<(), PlanFault> {
 #[test]
 fn faults_of_layers_below(rt: HostRuntime) -> Result<(), Fail> {
     let mut plan: TickPlan = settled(2, &[])?;
+    let of_bound = Err(PlanFault::Bound(BoundFault::RightPoint));
+    assert_eq!(rt; post(&mut plan, [0, 4096, 0, 0]), of_bound);
+    let told = (read_of_ticks(0, 1), full_book());
     assert_eq!(rt;
-        post(&mut plan, [0, 4096, 0, 0]),
-        Err(PlanFault::Bound(BoundFault::RightPoint))
+        told,
+        (Err(unread(0)), Err(PlanFault::Book(BookFault::Full)))
     );
-    assert_eq!(rt; read_of_ticks(0, 1), Err(unread(0)));
-    assert_eq!(rt; full_book(), Err(PlanFault::Book(BookFault::Full)));
     Ok(())
 }
 

@@ -1,37 +1,14 @@
 // Marks in one another, and slips that are good and that are not.
-use crate::setups::{Numbers, TickPlan, counts, moved, post, post_all, settle, settled, time};
-use books::{Book, Table, WordBook};
+use crate::setups::{
+    Answer, Call, End, TickPlan, close, counts, play, play_on, post, settled, strayed, tried,
+};
+use books::{Table, WordBook};
 use bounds::Bound;
 use delays::Ticks;
-use plans::{Plan, PlanFault, Slip};
+use plans::{Plan, PlanFault};
+use std::process::Abort;
 use std::test::Fail;
 use words::BoundWords;
-
-// How a mark is closed.
-#[derive(Clone, Copy, PartialEq, Eq, Debug)]
-enum End {
-    Keep,
-    Back,
-}
-
-fn close<B: Book>(plan: &mut Plan<Ticks, B>, slip: Slip, end: End) -> Result<(), PlanFault> {
-    match end {
-        End::Keep => plan.keep(slip),
-        End::Back => plan.back(slip),
-    }
-}
-
-// Posts under a mark.
-fn tried<B: Book>(
-    plan: &mut Plan<Ticks, B>,
-    bounds: &[Numbers],
-    end: End,
-) -> Result<(), PlanFault> {
-    let slip = plan.mark()?;
-    let posted = post_all(plan, bounds);
-    close(plan, slip, end)?;
-    posted
-}
 
 // Opens so many marks in one another, and keeps each.
 fn nest(plan: &mut TickPlan, marks: u32) -> Result<(), PlanFault> {
@@ -44,80 +21,92 @@ fn nest(plan: &mut TickPlan, marks: u32) -> Result<(), PlanFault> {
     inner
 }
 
+// The plan takes so many marks more, and then no other.
+fn check_room(rt: &impl Abort, plan: &mut TickPlan, marks: u8) {
+    let marks = u32::from(marks);
+    let nested = (nest(plan, marks), nest(plan, marks + 1));
+    assert_eq!(rt; nested, (Ok(()), Err(PlanFault::MarksFull)));
+}
+
 #[test]
 fn nine_marks(rt: HostRuntime) -> Result<(), Fail> {
     let mut plan: TickPlan = settled(2, &[])?;
-    assert_eq!(rt; nest(&mut plan, 8), Ok(()));
-    assert_eq!(rt; nest(&mut plan, 9), Err(PlanFault::MarksFull));
-    assert_eq!(rt; nest(&mut plan, 8), Ok(()));
+    check_room(&rt, &mut plan, 8);
+    check_room(&rt, &mut plan, 8);
     Ok(())
 }
 
 // The earliest times are had again, and so are the free places.
 #[test]
 fn a_back_takes_posts_back(rt: HostRuntime) -> Result<(), Fail> {
-    let mut plan: TickPlan = settled(3, &[[0, 2, -1, 0]])?;
-    for _ in 0..2 {
-        tried(
-            &mut plan,
-            &[[0, 1, -7, 0], [1, 2, -1, 0], [2, 0, 9, 0]],
-            End::Back,
-        )?;
-        assert_eq!(rt; time(&plan, 1), Ok((0, 0)));
-        assert_eq!(rt; time(&plan, 2), Ok((1, 0)));
-    }
-    assert_eq!(rt; post(&mut plan, [0, 1, -7, 0]), moved(1));
-    assert_eq!(rt; post(&mut plan, [1, 2, -1, 0]), moved(1));
-    assert_eq!(rt; counts(&plan.close()), (0, 3, 1_021));
-    Ok(())
+    let posts = [[0, 1, -7, 0], [1, 2, -1, 0], [2, 0, 9, 0]];
+    let calls = [
+        (Call::Try(&posts, End::Back), Answer::Tried),
+        (Call::Read(1), Answer::Time(0, 0)),
+        (Call::Read(2), Answer::Time(1, 0)),
+        (Call::Try(&posts, End::Back), Answer::Tried),
+        (Call::Read(1), Answer::Time(0, 0)),
+        (Call::Read(2), Answer::Time(1, 0)),
+        (Call::Post([0, 1, -7, 0]), Answer::Moved(1)),
+        (Call::Post([1, 2, -1, 0]), Answer::Moved(1)),
+    ];
+    play_on(&rt, 3, &[[0, 2, -1, 0]], &calls, 3)
 }
 
 #[test]
 fn a_back_after_a_conflict_and_a_cover(rt: HostRuntime) -> Result<(), Fail> {
-    let mut plan: TickPlan = settled(2, &[[1, 0, 5, 0]])?;
-    assert_eq!(rt;
-        tried(&mut plan, &[[0, 1, -4, 0], [0, 1, -6, 0]], End::Back),
-        Err(PlanFault::Conflict { length: 2 })
-    );
-    assert_eq!(rt; tried(&mut plan, &[[1, 0, 6, 0]], End::Back), Ok(()));
-    assert_eq!(rt; time(&plan, 1), Ok((0, 0)));
-    assert_eq!(rt; tried(&mut plan, &[[0, 1, -4, 0]], End::Keep), Ok(()));
-    assert_eq!(rt; time(&plan, 1), Ok((4, 0)));
-    assert_eq!(rt; counts(&plan.close()), (0, 2, 1_022));
-    Ok(())
+    let chain = [0xC000_0000, 0x4000_0000];
+    let calls = [
+        (
+            Call::Try(&[[0, 1, -4, 0], [0, 1, -6, 0]], End::Back),
+            Answer::Conflict(&chain),
+        ),
+        (Call::Try(&[[1, 0, 6, 0]], End::Back), Answer::Tried),
+        (Call::Read(1), Answer::Time(0, 0)),
+        (Call::Try(&[[0, 1, -4, 0]], End::Keep), Answer::Tried),
+        (Call::Read(1), Answer::Time(4, 0)),
+    ];
+    play_on(&rt, 2, &[[1, 0, 5, 0]], &calls, 2)
 }
 
 // A post, and under a second mark one more.
 fn nested(plan: &mut TickPlan, inner: End, outer: End) -> Result<(), PlanFault> {
     let slip = plan.mark()?;
     let first = post(plan, [0, 1, -2, 0]);
-    let second = tried(plan, &[[0, 1, -7, 0]], inner);
+    let second = tried(plan, &[[0, 1, -7, 0]], &mut [0; 128], inner);
     close(plan, slip, outer)?;
     first?;
     second
 }
 
+// The time of point 1, and the numbers of the book.
 #[test]
 fn marks_in_marks(rt: HostRuntime) -> Result<(), Fail> {
     let ends = [
-        (End::Keep, End::Keep, 7, 3),
-        (End::Keep, End::Back, 0, 1),
-        (End::Back, End::Keep, 2, 2),
-        (End::Back, End::Back, 0, 1),
+        (End::Keep, End::Keep, 7, (0, 3, 1_021)),
+        (End::Keep, End::Back, 0, (0, 1, 1_023)),
+        (End::Back, End::Keep, 2, (0, 2, 1_022)),
+        (End::Back, End::Back, 0, (0, 1, 1_023)),
     ];
-    for (inner, outer, t, added) in ends {
+    for (inner, outer, t, numbers) in ends {
         let mut plan: TickPlan = settled(2, &[[1, 0, 9, 0]])?;
-        assert_eq!(rt; nested(&mut plan, inner, outer), Ok(()));
-        assert_eq!(rt; time(&plan, 1), Ok((t, 0)));
-        assert_eq!(rt; plan.close().added_count(), added);
+        nested(&mut plan, inner, outer)?;
+        play(&rt, &mut plan, &[(Call::Read(1), Answer::Time(t, 0))]);
+        assert_eq!(rt; counts(&plan.close()), numbers);
     }
     Ok(())
 }
 
-// A slip of a plan, handed to another one.
-fn strayed(from: &mut TickPlan, to: &mut TickPlan, end: End) -> Result<(), PlanFault> {
-    let slip = from.mark()?;
-    close(to, slip, end)
+// The answers to a slip of another plan, and to the slip of the plan's own mark after it.
+fn strayed_and_own(
+    other: &mut TickPlan,
+    plan: &mut TickPlan,
+    end: End,
+) -> Result<(Result<(), PlanFault>, Result<(), PlanFault>), PlanFault> {
+    let slip = plan.mark()?;
+    let stray = strayed(other, plan, end);
+    let own = close(plan, slip, end);
+    Ok((stray, own))
 }
 
 // A refused keep or back has used its slip, and the mark stays open in its own plan.
@@ -126,18 +115,13 @@ fn slips_of_another_plan(rt: HostRuntime) -> Result<(), Fail> {
     for end in [End::Keep, End::Back] {
         let mut plan: TickPlan = settled(2, &[])?;
         let mut other: TickPlan = Plan::open(Table::new(), 2, 8);
-        settle(&mut other)?;
-        let slip = other.mark()?;
-        let stray = strayed(&mut plan, &mut other, end);
-        let own = close(&mut other, slip, end);
-        assert_eq!(rt; (stray, own), (Err(PlanFault::WrongSlip), Ok(())));
-        assert_eq!(rt;
-            strayed(&mut plan, &mut other, end),
-            Err(PlanFault::WrongSlip)
-        );
-        assert_eq!(rt; nest(&mut plan, 6), Ok(()));
-        assert_eq!(rt; nest(&mut plan, 7), Err(PlanFault::MarksFull));
-        assert_eq!(rt; nest(&mut other, 8), Ok(()));
+        play(&rt, &mut other, &[(Call::Settle, Answer::Settled(0))]);
+        let both = strayed_and_own(&mut plan, &mut other, end);
+        let again = strayed(&mut plan, &mut other, end);
+        let wrong = Err(PlanFault::WrongSlip);
+        assert_eq!(rt; (both, again), (Ok((wrong, Ok(()))), wrong));
+        check_room(&rt, &mut plan, 6);
+        check_room(&rt, &mut other, 8);
     }
     Ok(())
 }
@@ -148,10 +132,8 @@ fn slips_of_a_plan_with_the_same_number(rt: HostRuntime) -> Result<(), Fail> {
     for end in [End::Keep, End::Back] {
         let mut plan: TickPlan = settled(2, &[])?;
         let mut other: TickPlan = settled(2, &[])?;
-        let slip = other.mark()?;
-        let stray = strayed(&mut plan, &mut other, end);
-        let own = close(&mut other, slip, end);
-        assert_eq!(rt; (stray, own), (Ok(()), Err(PlanFault::WrongSlip)));
+        let both = strayed_and_own(&mut plan, &mut other, end);
+        assert_eq!(rt; both, Ok((Ok(()), Err(PlanFault::WrongSlip))));
     }
     Ok(())
 }
@@ -175,12 +157,9 @@ fn crossed(
 fn the_slip_of_an_outer_mark(rt: HostRuntime) -> Result<(), Fail> {
     for end in [End::Keep, End::Back] {
         let mut plan: TickPlan = settled(2, &[])?;
-        assert_eq!(rt;
-            crossed(&mut plan, end),
-            Ok((Err(PlanFault::WrongSlip), Ok(())))
-        );
-        assert_eq!(rt; nest(&mut plan, 7), Ok(()));
-        assert_eq!(rt; nest(&mut plan, 8), Err(PlanFault::MarksFull));
+        let both = crossed(&mut plan, end);
+        assert_eq!(rt; both, Ok((Err(PlanFault::WrongSlip), Ok(()))));
+        check_room(&rt, &mut plan, 7);
     }
     Ok(())
 }
@@ -191,11 +170,14 @@ fn a_back_over_words(rt: HostRuntime) -> Result<(), Fail> {
     let [a, b, c] = BoundWords::from(Bound::new(1, 0, 5, 0)?).0;
     let [_, e, f] = BoundWords::from(Bound::new(0, 1, -4, 0)?).0;
     let mut words = [a, b, c, 0, 7, 7, 0, 7, 7];
-    let mut plan = Plan::open(WordBook::open(&mut words), 2, 7);
-    assert_eq!(rt; settle(&mut plan), Ok(0));
-    assert_eq!(rt; tried(&mut plan, &[[0, 1, -4, 0]], End::Back), Ok(()));
-    assert_eq!(rt; time(&plan, 1), Ok((0, 0)));
-    assert_eq!(rt; counts(&plan.close()), (1, 0, 2));
-    assert_eq!(rt; words, [a, b, c, 0, e, f, 0, 7, 7]);
+    let mut plan: Plan<Ticks, WordBook> = Plan::open(WordBook::open(&mut words), 2, 7);
+    let calls = [
+        (Call::Settle, Answer::Settled(0)),
+        (Call::Try(&[[0, 1, -4, 0]], End::Back), Answer::Tried),
+        (Call::Read(1), Answer::Time(0, 0)),
+    ];
+    play(&rt, &mut plan, &calls);
+    let numbers = counts(&plan.close());
+    assert_eq!(rt; (numbers, words), ((1, 0, 2), [a, b, c, 0, e, f, 0, 7, 7]));
     Ok(())
 }

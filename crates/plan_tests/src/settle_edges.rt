@@ -1,5 +1,5 @@
 // Settling over books that can be met, and over books that can't.
-use crate::setups::{Numbers, TickPlan, bound, settle, table, time};
+use crate::setups::{Answer, Call, Numbers, TickPlan, bound, play, table};
 use books::Table;
 use delays::{Delay, Ranked, read_pair};
 use faults::Fault;
@@ -12,11 +12,11 @@ use std::test::Fail;
 // How many times are not zero, and the time of point 2.
 #[test]
 fn settled_times(rt: HostRuntime) -> Result<(), Fail> {
-    let books: [([Numbers; 3], usize, (i64, i64)); 5] = [
-        ([[0, 0, 0, 0], [1, 2, 0, 0], [2, 1, 0, 0]], 0, (0, 0)),
-        ([[1, 0, 5, 0], [0, 1, -5, 0], [2, 0, 0, 0]], 1, (0, 0)),
-        ([[1, 2, -1, 0], [0, 1, -1, 0], [2, 0, 2, 0]], 2, (2, 0)),
-        ([[0, 2, -1, 0], [1, 2, -1, 0], [0, 1, -4, 0]], 2, (5, 0)),
+    let books: [([Numbers; 3], usize, i64); 5] = [
+        ([[0, 0, 0, 0], [1, 2, 0, 0], [2, 1, 0, 0]], 0, 0),
+        ([[1, 0, 5, 0], [0, 1, -5, 0], [2, 0, 0, 0]], 1, 0),
+        ([[1, 2, -1, 0], [0, 1, -1, 0], [2, 0, 2, 0]], 2, 2),
+        ([[0, 2, -1, 0], [1, 2, -1, 0], [0, 1, -4, 0]], 2, 5),
         (
             [
                 [0, 1, -500_000_000, 0],
@@ -24,13 +24,16 @@ fn settled_times(rt: HostRuntime) -> Result<(), Fail> {
                 [2, 1, 500_000_000, 0],
             ],
             2,
-            (1_000_000_000, 0),
+            1_000_000_000,
         ),
     ];
     for (bounds, count, last) in books {
         let mut plan: TickPlan = Plan::open(table(&bounds)?, 3, 7);
-        assert_eq!(rt; settle(&mut plan), Ok(count));
-        assert_eq!(rt; time(&plan, 2), Ok(last));
+        let calls = [
+            (Call::Settle, Answer::Settled(count)),
+            (Call::Read(2), Answer::Time(last, 0)),
+        ];
+        play(&rt, &mut plan, &calls);
     }
     Ok(())
 }
@@ -45,16 +48,15 @@ fn settled_ranked_times(rt: HostRuntime) -> Result<(), Fail> {
         [0, 3, -1, 2],
     ];
     let mut plan: Plan<Ranked, Table> = Plan::open(table(&bounds)?, 5, 7);
-    assert_eq!(rt; settle(&mut plan), Ok(3));
-    for (point, parts) in [
-        (0, (0, 0)),
-        (1, (0, 1)),
-        (2, (0, 2)),
-        (3, (1, -2)),
-        (4, (0, 0)),
-    ] {
-        assert_eq!(rt; time(&plan, point), Ok(parts));
-    }
+    let calls = [
+        (Call::Settle, Answer::Settled(3)),
+        (Call::Read(0), Answer::Time(0, 0)),
+        (Call::Read(1), Answer::Time(0, 1)),
+        (Call::Read(2), Answer::Time(0, 2)),
+        (Call::Read(3), Answer::Time(1, -2)),
+        (Call::Read(4), Answer::Time(0, 0)),
+    ];
+    play(&rt, &mut plan, &calls);
     Ok(())
 }
 
@@ -106,7 +108,11 @@ fn check_conflict<D: Delay>(
     let row: Vec<Edge<D>> = named(heap, bounds, words)?;
     assert_eq!(rt; is_chain(row.as_slice()), Some(true));
     assert!(rt; rest.iter().all(|word| *word == 7));
-    assert_eq!(rt; time(plan, 0), Err(PlanFault::Unsettled));
+    play(
+        rt,
+        plan,
+        &[(Call::Read(0), Answer::Refused(PlanFault::Unsettled))],
+    );
     Ok(())
 }
 

@@ -2,40 +2,59 @@
 use crate::setups::{lists_in, prints, refuses_in};
 use faults::{Fault, Layer};
 use scripts::ScriptFault;
+use std::alloc::Global;
 use std::test::Fail;
 
+// An output of so many bytes gets a listing, or is refused.
 #[test]
 fn outputs_of_64_bytes_a_line(rt: HostRuntime) -> Result<(), Fail> {
-    let heap = rt.alloc();
-    lists_in(&rt, heap, 0, b"", "")?;
-    refuses_in(&rt, heap, 0, b"T 1")?;
-    refuses_in(&rt, heap, 63, b"T 1")?;
-    lists_in(&rt, heap, 64, b"T 1", "1 S 0\n")?;
-    refuses_in(&rt, heap, 63, b"T 1\n")?;
-    lists_in(&rt, heap, 64, b"T 1\n", "1 S 0\n")?;
-    refuses_in(&rt, heap, 64, b"T 1\nW 0")?;
-    refuses_in(&rt, heap, 127, b"T 1\nW 0")?;
-    lists_in(&rt, heap, 128, b"T 1\nW 0", "1 S 0\n2 W 0 0 0 0\n")?;
-    refuses_in(&rt, heap, 127, b"\n\n")?;
-    lists_in(&rt, heap, 128, b"\n\n", "1 E 12 L 0\n2 E 12 L 0\n")
+    let table = [
+        (0, "", Some("")),
+        (0, "T 1", None),
+        (63, "T 1", None),
+        (64, "T 1", Some("1 S 0\n")),
+        (63, "T 1\n", None),
+        (64, "T 1\n", Some("1 S 0\n")),
+        (64, "T 1\nW 0", None),
+        (127, "T 1\nW 0", None),
+        (128, "T 1\nW 0", Some("1 S 0\n2 W 0 0 0 0\n")),
+        (127, "\n\n", None),
+        (128, "\n\n", Some("1 E 12 L 0\n2 E 12 L 0\n")),
+    ];
+    for (room, script, listing) in table {
+        match listing {
+            Some(listing) => lists_in(&rt, rt.alloc(), room, script.as_bytes(), listing)?,
+            None => refuses_in(&rt, rt.alloc(), room, script.as_bytes())?,
+        }
+    }
+    Ok(())
+}
+
+// A script of so many empty lines, and its listing.
+fn empty_lines(heap: Global, count: usize) -> Result<(Vec<u8>, String), Fail> {
+    let script = vec![in heap; b'\n'; count]?;
+    let mut listing = String::new(heap);
+    for number in 0..count {
+        listing.push_str(format!(in heap; "{} E 12 L 0\n", number + 1)?.as_str())?;
+    }
+    Ok((script, listing))
 }
 
 // An output of 65,536 bytes is enough for 1,024 lines.
 #[test]
 fn lines_with_nothing_in_them(rt: HostRuntime) -> Result<(), Fail> {
     let heap = rt.alloc();
-    let mut script = Vec::new(heap);
-    let mut listing = String::new(heap);
-    for number in 1..1_025 {
-        script.push(b'\n')?;
-        listing.push_str(format!(in heap; "{number} E 12 L 0\n")?.as_str())?;
-    }
+    let (script, listing) = empty_lines(heap, 1_024)?;
     refuses_in(&rt, heap, 65_535, script.as_slice())?;
-    lists_in(&rt, heap, 65_536, script.as_slice(), listing.as_str())?;
-    script.push(b'\n')?;
+    lists_in(&rt, heap, 65_536, script.as_slice(), listing.as_str())
+}
+
+#[test]
+fn one_line_more_with_nothing_in_it(rt: HostRuntime) -> Result<(), Fail> {
+    let heap = rt.alloc();
+    let (script, listing) = empty_lines(heap, 1_025)?;
     refuses_in(&rt, heap, 65_536, script.as_slice())?;
     refuses_in(&rt, heap, 65_599, script.as_slice())?;
-    listing.push_str("1025 E 12 L 0\n")?;
     lists_in(&rt, heap, 65_600, script.as_slice(), listing.as_str())
 }
 
@@ -50,19 +69,22 @@ fn the_longest_scripts(rt: HostRuntime) -> Result<(), Fail> {
     refuses_in(&rt, heap, 100_000, script.as_slice())
 }
 
-// The program has room for 1,024 lines, and tells by one line that a text has more, or more than 32,768 bytes.
 #[test]
-fn what_the_program_prints(rt: HostRuntime) -> Result<(), Fail> {
-    let heap = rt.alloc();
+fn what_the_program_prints(rt: HostRuntime) {
     prints(&rt, b"", "");
     prints(&rt, b"T 1\nW 0", "1 S 0\n2 W 0 0 0 0\n");
-    let mut script = vec![in heap; b'\n'; 1_025]?;
-    prints(&rt, script.as_slice(), "E 14 L 0\n");
-    script.clear();
-    script.resize(32_768, b'W')?;
-    prints(&rt, script.as_slice(), "1 E 12 L 0\n");
-    script.push(b'W')?;
-    prints(&rt, script.as_slice(), "E 14 L 0\n");
+}
+
+// The program has room for 1,024 lines, and tells by one line that a text has more, or more than 32,768 bytes.
+#[test]
+fn what_the_program_prints_of_the_longest_scripts(rt: HostRuntime) -> Result<(), Fail> {
+    let heap = rt.alloc();
+    let too_long = "E 14 L 0\n";
+    let (script, listing) = empty_lines(heap, 1_024)?;
+    prints(&rt, script.as_slice(), listing.as_str());
+    prints(&rt, vec![in heap; b'\n'; 1_025]?.as_slice(), too_long);
+    prints(&rt, vec![in heap; b'W'; 32_768]?.as_slice(), "1 E 12 L 0\n");
+    prints(&rt, vec![in heap; b'W'; 32_769]?.as_slice(), too_long);
     Ok(())
 }
 

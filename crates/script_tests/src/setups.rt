@@ -49,9 +49,11 @@ pub(crate) fn list_each(
     Ok(())
 }
 
-// The program prints this of a text that begins with the input.
+// The program prints this of a text that begins with the input, and its output keeps its bytes after that.
 pub(crate) fn prints(rt: &impl Abort, input: &[u8], printed: &str) {
     let mut output = [BEFORE; OUTPUT_BYTES];
     let length = print_into(input, &mut output);
-    assert_eq!(rt; &output[..length], printed.as_bytes());
+    let (written, after) = output.split_at(length);
+    assert_eq!(rt; written, printed.as_bytes());
+    assert!(rt; after.iter().all(|b| *b == BEFORE));
 }
