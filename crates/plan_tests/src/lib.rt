@@ -1,4 +1,4 @@
-// Tests of plans at their edges, apart from the crate so that it is not proved twice.
+// Tests of plans and of scripts at their edges, apart from the crates so that those are not proved twice.
 #![tactic(auto)]
 
 #[cfg(test)]
@@ -9,6 +9,14 @@ mod fault_edges;
 mod mark_edges;
 #[cfg(test)]
 mod post_edges;
+#[cfg(test)]
+mod script_lines;
+#[cfg(test)]
+mod script_plans;
+#[cfg(test)]
+mod script_rooms;
+#[cfg(test)]
+mod script_setups;
 #[cfg(test)]
 mod settle_edges;
 #[cfg(test)]

@@ -1,5 +1,5 @@
 // How long a script may be, and how short an output.
-use crate::setups::{lists_in, prints, refuses_in};
+use crate::script_setups::{lists_in, prints, refuses_in};
 use faults::{Fault, Layer};
 use scripts::ScriptFault;
 use std::alloc::Global;

@@ -1,5 +1,5 @@
 // Where lines and fields begin and end, and what a number is.
-use crate::setups::{list_each, lists_in};
+use crate::script_setups::{list_each, lists_in};
 use std::test::Fail;
 
 #[test]

@@ -1,6 +1,6 @@
 // Books at their edges: the last free place and one more, cuts to nothing, to all and past it, trials on trials, and words of
 // every awkward length.
-use crate::calls::{Answer, Call, bound, check_cuts, check_full, fill, numbers, play};
+use crate::book_calls::{Answer, Call, bound, check_cuts, check_full, fill, numbers, play};
 use books::{Book, BookFault, Table, Trial, WordBook, add_all};
 use bounds::Bound;
 use faults::{Fault, Layer};

@@ -1,5 +1,5 @@
 // What the lines do to the plan, and what is printed of it.
-use crate::setups::{list_each, lists_in};
+use crate::script_setups::{list_each, lists_in};
 use std::test::Fail;
 
 #[test]
