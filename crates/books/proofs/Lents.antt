@@ -57,7 +57,7 @@ module _ (ws vs : List ℕ) (c : Counts) (fit : Fit ws c) where
         let n = c.fixed + c.added in
         let before = put_before ws vs c.places n row fit.room free made in
         same_meaning _ _ (same_rows ws vs n before 0 c.fixed (omega arith))
-          (put_rows ws vs c.places n row fit.room free made c.fixed c.added refl sound) (omega arith)
+        (put_rows ws vs c.places n row fit.room free made c.fixed c.added refl sound) (omega arith)
 
   module _ (k : ℕ) (few : k ≤ c.added) (made : vs ≡ ended c.places ws (c.fixed + k)) where
     cut_before : take (3 * (c.fixed + k)) vs ≡ take (3 * (c.fixed + k)) ws
@@ -97,7 +97,7 @@ module _ (ws : List ℕ) (rows : List Row) (h : Holds rows (take 196605 ws)) whe
   held_words : (i : ℕ) (r : Row) → i < length rows → words_at ws i ≡ row_words (get_or rows i r)
   held_words i r l =
       let same : take (3 * length rows) (take 196605 ws) ≡ take (3 * length rows) ws =
-          take-take (3 * length rows) 196605 ws (omega (arith, used_long, length-take 196605 ws)) in
+      take-take (3 * length rows) 196605 ws (omega (arith, used_long, length-take 196605 ws)) in
       sym (same_words ws (take 196605 ws) (length rows) same i l) ∙ ap (λ vs. words_at vs i) h.cut ∙ word_in rows h.after i r l
 
   pub held_bounds : BoundsIn ws (length rows)

@@ -138,7 +138,7 @@ module _ (ws : List ℕ) (whole : length ws % 3 ≡ 0) where
       let fixed : c.counts.fixed ≡ b.counts.fixed = fixed_is c ∙ ap (λ x. length x.fixed) m ∙ sym (fixed_is b) in
       let added : c.counts.added ≡ k = added_is c ∙ ap (λ x. length x.added) m ∙ length-take-le k (meaning_of b).added h in
       let left : c.counts.places - (c.counts.fixed + c.counts.added) ≡ p - (b.counts.fixed + b.counts.added) + (length (meaning_of b).added - k) =
-          ap (λ x. x.free) m in
+      ap (λ x. x.free) m in
       record {
         long = ap length made ∙ length-ended p vs n room ∙ long;
         beyond = ap (drop 196605) made ∙ drop-ended p vs n room 196605 (omega arith) ∙ i.beyond;

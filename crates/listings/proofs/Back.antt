@@ -82,7 +82,7 @@ words_back r i =
     let t = twos_small r.t i.2 in
     let s = twos_small r.s i.3 in
     readings_more word 1 2 (hex_text (head_word r.left r.right)) (hex_text (part_word 2 r.t) ++ (32 ∷ hex_text (part_word 3 r.s))) _ _
-        (hex_writes _ (omega arith))
+    (hex_writes _ (omega arith))
     (readings_more word 2 1 (hex_text (part_word 2 r.t)) (hex_text (part_word 3 r.s)) _ _ (hex_writes _ (omega arith))
     (readings_last word 3 (hex_text (part_word 3 r.s)) _ (hex_writes _ (omega arith))))
 

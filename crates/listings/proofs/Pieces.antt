@@ -101,12 +101,11 @@ pub follows_byte : (before after : Tool) (b : ℕ) (text : List ℕ) → (b ≡ 
     → ((whole : List ℕ) → kept before.line ≡ take 48 whole → kept after.line ≡ take 48 (whole ++ (b ∷ []))) → Follows before (b ∷ []) text after
 follows_byte before after b text other none task tally front = record {
   task = task;
-  goes = λ part h.
-      (
-        part ++ (b ∷ []),
-        (All-push Plain part b h.0 other, front part h.1),
-        record { lines = []; cut = refl; whole = All-nil OneLine; answers = (none, tally) },
-      );
+  goes = λ part h. (
+    part ++ (b ∷ []),
+    (All-push Plain part b h.0 other, front part h.1),
+    record { lines = []; cut = refl; whole = All-nil OneLine; answers = (none, tally) },
+  );
 }
 
 -- a line feed, which ends the line

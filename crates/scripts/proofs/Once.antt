@@ -69,8 +69,7 @@ module _ {k : Kind} (laws : Lawful k) where
   obeys_once s (Read p) a b t u h g = call_once s (plans.read p) p h.0 g.0 a b t u h.1 g.1 h.2 g.2
   obeys_once s (Try r) a b t u h g =
       let one = tried_posts s (row_of r) h.0 t h.1 in
-      let other = tried_posts s (row_of r) g.0 u g.1 in
-      (
+      let other = tried_posts s (row_of r) g.0 u g.1 in (
         (call_once s (plans.post list_length (row_of r)) 0 h.0 g.0 a b one.0 other.0 one.1 other.1 h.2 g.2).0,
         tried_leaves s (row_of r) h.0 t h.1 ∙ sym (tried_leaves s (row_of r) g.0 u g.1),
       )

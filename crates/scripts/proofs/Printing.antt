@@ -22,10 +22,10 @@ module _ (text input : List ℕ) (read : input ≡ take 32769 text) where
     where
       shown : take n after ≡ h.2.0
       shown = ap (take n) h.2.3 ∙ take_at h.2.0 (drop n before) n (sym h.2.2)
+
       go : (length text < 32769) ⊎ (32769 ≤ length text) → (length text ≤ 32768) × (length (script_lines text) ≤ 1024) × ListingOf text (take n after)
       go (inl few) =
-          let same : input ≡ text = whole (omega (arith, few)) in
-          (
+          let same : input ≡ text = whole (omega (arith, few)) in (
             omega (arith, few),
             subst (λ (t : List ℕ). length (script_lines t) ≤ 1024) same (omega (arith, h.1, room)),
             subst (λ (t : List ℕ). ListingOf t (take n after)) same (subst (ListingOf input) (sym shown) h.2.1),
