@@ -14,11 +14,6 @@ use Rattle.books.specs.Meaning.{Meaning, bounds_of, with_bounds, cut_to}
 abbrev pub Reads : Meaning → ℕ → Option Bound → Type 0
 Reads m i r = option_map row_of r ≡ slice_get (bounds_of m) i
 
--- rows are added one after the other, as the storage promises of each
-abbrev pub OneByOne : {S : Type 0} → (S → Row → S → Type 0) → S → List Row → S → Type 0
-OneByOne adds before [] after = after ≡ before
-OneByOne {S} adds before (row ∷ rows) after = (next : S) × adds before row next × OneByOne adds next rows after
-
 module _ {S : Type 0} (meaning : S → Meaning) where
   -- adding a bound puts it at the end of the added list, or is refused exactly when no place is free, and then nothing changes
   abbrev pub Adding : {U : Type 0} → (S → Row → S → Type 0) → S → Row → S → Result U BookFault → Type 0
@@ -29,6 +24,11 @@ module _ {S : Type 0} (meaning : S → Meaning) where
   abbrev pub Cutting : (S → ℕ → S → Type 0) → S → ℕ → S → Bool → Type 0
   Cutting cuts before k after true = (k ≤ length (meaning before).added) × (meaning after ≡ cut_to (meaning before) k) × cuts before k after
   Cutting cuts before k after false = (length (meaning before).added < k) × (after ≡ before)
+
+  -- bounds are added one after the other, each by a call of adding that is accepted
+  abbrev pub OneByOne : (S → Row → S → Type 0) → S → List Row → S → Type 0
+  OneByOne adds before [] after = after ≡ before
+  OneByOne adds before (row ∷ rows) after = (next : S) × Adding {U = Unit {0}} adds before row next (Ok tt) × OneByOne adds next rows after
 
   -- adding several bounds adds all of them in their order, or none exactly when fewer places are free, and then nothing changes
   abbrev pub AddingAll : {U : Type 0} → (S → Row → S → Type 0) → S → List Row → S → Result U BookFault → Type 0

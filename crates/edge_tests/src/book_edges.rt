@@ -135,18 +135,19 @@ fn words_of_one_bound(rt: HostRuntime) -> Result<(), Fail> {
 }
 
 #[test]
-fn a_row_put_into_words(rt: HostRuntime) -> Result<(), Fail> {
+fn rows_put_into_words_at_once(rt: HostRuntime) -> Result<(), Fail> {
     let [a, b, c] = words_of(bound(1)?);
     let [d, e, f] = words_of(bound(2)?);
+    let [g, h, i] = words_of(bound(3)?);
     let mut words = [a, b, c, 0, 7, 7, 7, 7, 7, 7, 7, 7];
     let mut book = WordBook::open(&mut words);
-    let second = [bound(2)?];
+    let more = [bound(2)?, bound(3)?];
     let calls = [
         (Call::Count, Answer::Numbers(1, 0, 3)),
-        (Call::AddAll(&second), Answer::Added),
+        (Call::AddAll(&more), Answer::Added),
     ];
     play(&rt, &mut book, &calls);
-    assert_eq!(rt; words, [a, b, c, d, e, f, 0, 7, 7, 7, 7, 7]);
+    assert_eq!(rt; words, [a, b, c, d, e, f, g, h, i, 0, 7, 7]);
     Ok(())
 }
 
