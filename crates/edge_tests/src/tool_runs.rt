@@ -6,9 +6,9 @@ use std::test::Fail;
 
 // What the tool prints for an input that comes in two pieces.
 fn in_two(heap: Global, task: Task, first: &[u8], second: &[u8]) -> Result<String, Fail> {
-    let mut tool = Tool::new(task);
-    let mut out = tool.feed(heap, first)?;
-    out.push_str(tool.feed(heap, second)?.as_str())?;
+    let (tool, mut out) = Tool::new(task).feed(heap, first)?;
+    let (tool, text) = tool.feed(heap, second)?;
+    out.push_str(text.as_str())?;
     out.push_str(tool.finish(heap)?.text.as_str())?;
     Ok(out)
 }

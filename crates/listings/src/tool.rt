@@ -74,17 +74,17 @@ impl Tool {
         }
     }
 
-    // The next piece of the input, and what is printed for the lines that it ends. Refused only where memory fails; then nothing is
-    // promised of the tool, which is of no more use.
-    pub fn feed(&mut self, heap: Global, piece: &[u8]) -> Result<String, AllocError>
-        ensures { IfOk result (λ x. Follows self.old piece.now (string_bytes x) self.new) }
+    // The tool after the next piece of the input, and what is printed for the lines that the piece ends. Refused only where memory
+    // fails, and then no tool is left.
+    pub fn feed(mut self, heap: Global, piece: &[u8]) -> Result<(Tool, String), AllocError>
+        ensures { IfOk result (λ x. Follows self piece.now (string_bytes x.1) x.0) }
     {
         let mut out = String::new(heap);
         for b in piece {
             let text = self.step(heap, *b)?;
             out.push_str(text.as_str())?;
         }
-        Ok(out)
+        Ok((self, out))
     }
 
     // A last line that no line feed ends.
@@ -120,8 +120,7 @@ impl Tool {
 pub fn run(heap: Global, task: Task, input: &[u8]) -> Result<Ending, AllocError>
     ensures { IfOk result (λ e. Prints task input.now (string_bytes e.text) e.tally) }
 {
-    let mut tool = Tool::new(task);
-    let mut text = tool.feed(heap, input)?;
+    let (tool, mut text) = Tool::new(task).feed(heap, input)?;
     let ending = tool.finish(heap)?;
     text.push_str(ending.text.as_str())?;
     Ok(Ending {

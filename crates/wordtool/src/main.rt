@@ -33,7 +33,8 @@ fn answer(rt: &HostRuntime, task: Task) -> anyhow::Result<Ending> {
         if n == 0 {
             break;
         }
-        let text = tool.feed(heap, &piece[0..n])?;
+        let (next, text) = tool.feed(heap, &piece[0..n])?;
+        tool = next;
         output.write_all(text.as_bytes())?;
     }
     Ok(tool.finish(heap)?)
