@@ -1,3 +1,4 @@
+pub mod Hundredths
 mod Remaining
 pub mod Numbers
 pub mod Widths

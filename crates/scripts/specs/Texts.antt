@@ -1,5 +1,5 @@
 -- What is printed of an answer. Assumes nothing.
-use Rattle.std.specs.Prelude.{ℕ, List, [], ◌∷◌, ◌++◌, ℤ, pos, ◌+ℤ◌, codes, decimal}
+use Rattle.std.specs.Prelude.{ℕ, List, [], ◌∷◌, ◌++◌, ℤ, pos, ◌+ℤ◌, ◌*ℤ◌, ◌≤ℤ◌, ◌<ℤ◌, codes, decimal}
 use Rattle.std.specs.Int.{int_div_euclid}
 use Rattle.std.specs.Fmt.{signed_decimal}
 use Rattle.faults.specs.Faults.{letter_of}
@@ -15,6 +15,10 @@ spaced (w ∷ (v ∷ ws)) = w ++ (codes " " ++ spaced (v ∷ ws))
 -- milliseconds in hundredths of a second, halves up: a tenth of t and 5, rounded down
 abbrev pub hundredths : ℤ → ℤ
 hundredths t = int_div_euclid (t +ℤ pos 5) (pos 10)
+
+-- h hundredths of a second are the nearest to t milliseconds, halves up: t is at least 10h - 5, and less than 10h + 5
+abbrev pub NearestHundredth : ℤ → ℤ → Type 0
+NearestHundredth t h = ((pos 10 *ℤ h) ≤ℤ (t +ℤ pos 5)) × (t <ℤ ((pos 10 *ℤ h) +ℤ pos 5))
 
 -- the letter of the answer, and its numbers
 abbrev pub answer_text : Answer → List ℕ

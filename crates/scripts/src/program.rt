@@ -11,10 +11,10 @@ pub const INPUT_BYTES: u64 = 32_769;
 pub const OUTPUT_BYTES: usize = 65_536;
 
 // Writes at the start of the output what the program prints of a text, answers its length, and leaves the rest of the output as it was. It is
-// given the first 32,769 bytes of the text, or all where it has fewer. It prints the listing; or, where the text has more than 32,768 bytes or 1,024
-// lines, the one line of fault 14.
+// given the first 32,769 bytes of the text or more, or all where it has fewer. It prints the listing; or, where the text has more than 32,768
+// bytes or 1,024 lines, the one line of fault 14.
 pub fn print_into(input: &[u8], output: &mut [u8; OUTPUT_BYTES]) -> usize
-    ensures printed { (text : List ℕ) → input.now ≡ take 32769 text → Printed text (take result output.new) }
+    ensures printed { (text : List ℕ) → take INPUT_BYTES input.now ≡ take INPUT_BYTES text → Printed text (take result output.new) }
     ensures rest { drop result output.new ≡ drop result output.old }
     ensures fits { result ≤ 65536 }
 {

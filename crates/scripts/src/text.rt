@@ -4,7 +4,7 @@ ghost use Rattle.std.specs.Fmt.{signed_decimal};
 ghost use Rattle.arrayvec.specs.ArrayString.{array_string_len};
 ghost use Rattle.faults.specs.Faults.{letter_of};
 ghost use Rattle.scripts.specs.Room.{ShortPart, ShortTime};
-ghost use Rattle.scripts.specs.Texts.{spaced, hundredths as hundredths_of, answer_text, line_text};
+ghost use Rattle.scripts.specs.Texts.{spaced, hundredths as hundredths_of, NearestHundredth, answer_text, line_text};
 
 use crate::answer::Answer;
 use arrayvec::ArrayString;
@@ -19,8 +19,10 @@ pub(crate) const LINE_BYTES: usize = 64;
 const ANSWER_BYTES: usize = 96;
 
 // Milliseconds in hundredths of a second, halves up. In so wide a type no time is too great for the sum.
+#[tactic(auto, using(crate::proofs::Hundredths::nearest))]
 fn hundredths(t: i64) -> i128
-    ensures { result ≡ hundredths_of t }
+    ensures tenth { result ≡ hundredths_of t }
+    ensures nearest { NearestHundredth t result }
 {
     (i128::from(t) + 5).div_euclid(10)
 }
