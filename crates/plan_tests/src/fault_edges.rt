@@ -1,10 +1,11 @@
-// What a plan's refusals tell: number, layer and place, and words.
+// What the refusals of plans and scripts tell: number, layer and place, and words.
 use crate::setups::{TickPlan, post, settled, unread};
 use books::BookFault;
 use bounds::BoundFault;
 use delays::{Ticks, read_pair};
 use faults::{Fault, Layer};
 use plans::PlanFault;
+use scripts::{ScriptFault, command_of};
 use std::test::Fail;
 
 #[test]
@@ -62,6 +63,15 @@ fn faults_of_layers_below(rt: HostRuntime) -> Result<(), Fail> {
 fn faults_in_words(rt: HostRuntime) -> Result<(), Fail> {
     let table = [
         (PlanFault::Unsettled, "the plan is not settled"),
+        (PlanFault::SettledAlready, "the plan is settled already"),
+        (
+            PlanFault::Points,
+            "the number of points is not from 1 to 128",
+        ),
+        (
+            PlanFault::ListShort,
+            "the list is shorter than the number of points",
+        ),
         (
             PlanFault::Point { place: 2 },
             "a point is not below the number of points (place 2)",
@@ -81,6 +91,39 @@ fn faults_in_words(rt: HostRuntime) -> Result<(), Fail> {
         (
             PlanFault::Book(BookFault::Full),
             "the book has no free place",
+        ),
+        (PlanFault::MarksFull, "eight marks are open"),
+        (
+            PlanFault::WrongSlip,
+            "the slip is not the plan's present one",
+        ),
+    ];
+    for (fault, words) in table {
+        let told = format!(in rt.alloc(); "{fault}")?;
+        assert_eq!(rt; told.as_str(), words);
+    }
+    Ok(())
+}
+
+// The command of an empty line is refused for its fields.
+#[test]
+fn faults_of_scripts_in_words(rt: HostRuntime) -> Result<(), Fail> {
+    let table = [
+        (
+            ScriptFault::Room,
+            "the script is too long, or the output too short",
+        ),
+        (
+            command_of(b"").err().unwrap_or(ScriptFault::Room),
+            "a field is missing, unreadable or extra",
+        ),
+        (
+            ScriptFault::Bound(BoundFault::PartT),
+            "t is not from -500000000 to 500000000",
+        ),
+        (
+            ScriptFault::Plan(PlanFault::Conflict { length: 3 }),
+            "the bounds in force hold a chain of 3",
         ),
     ];
     for (fault, words) in table {

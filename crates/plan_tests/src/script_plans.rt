@@ -1,5 +1,7 @@
 // What the lines do to the plan, and what is printed of it.
 use crate::script_setups::{list_each, lists_in};
+use faults::{Fault, Layer};
+use scripts::Answer;
 use std::test::Fail;
 
 #[test]
@@ -127,4 +129,33 @@ fn a_post_too_many(rt: HostRuntime) -> Result<(), Fail> {
     script.push_str("P 0 1 -1025 0\nQ 1 0 2000 0\nP 0 1 -7 0\nP 1 0 7 0\nW 1\n")?;
     listing.push_str("1026 E 9 B 0\n1027 E 9 B 0\n1028 C\n1029 X\n1030 W 1 1024 0 102\n")?;
     lists_in(&rt, heap, 1_030 * 64, script.as_bytes(), listing.as_str())
+}
+
+fn time(point: u16, t: i64, s: i64) -> Answer {
+    Answer::Time { point, t, s }
+}
+
+#[test]
+fn answers_in_text(rt: HostRuntime) -> Result<(), Fail> {
+    let refused = Fault {
+        number: 7,
+        layer: Layer::Bounds,
+        place: 3,
+    };
+    let table = [
+        (Answer::Settled { count: 0 }, "S 0"),
+        (Answer::Moved { count: 128 }, "A 128"),
+        (Answer::Covered, "C"),
+        (Answer::Conflict, "X"),
+        (time(3, 1_994, -7), "W 3 1994 -7 199"),
+        (time(127, 1_995, 500_000_000), "W 127 1995 500000000 200"),
+        (time(0, -1_995, 0), "W 0 -1995 0 -199"),
+        (time(0, -1_996, 0), "W 0 -1996 0 -200"),
+        (Answer::Refused(refused), "E 7 D 3"),
+    ];
+    for (answer, text) in table {
+        let told = format!(in rt.alloc(); "{answer}")?;
+        assert_eq!(rt; told.as_str(), text);
+    }
+    Ok(())
 }
