@@ -18,8 +18,8 @@ struct Counts {
     added: usize,
 }
 
-// The word book: bounds in house words that the caller lends. It keeps its rows where they are: the fixed ones, then the added
-// ones, then a zero head where there is a place for it.
+/// The word book: bounds in house words that the caller lends. It keeps its rows where they are: the fixed ones, then the added
+/// ones, then a zero head where there is a place for it.
 #[derive(Drop)]
 pub struct WordBook<'a> {
     words: &'a mut [u32],
@@ -50,6 +50,7 @@ fn found(words: &[u32]) -> Counts
 }
 
 // The bound that has these words.
+#[inline(always)]
 fn bound_in(row: [u32; 3]) -> Bound
     requires { OfBound row }
     ensures { row_of result ≡ taken_apart row }
@@ -81,9 +82,9 @@ fn put_bound(words: &mut [u32], places: usize, n: usize, bound: Bound)
 impl<'a> WordBook<'a> {
     ghost use Rattle.books.specs.Held.{meaning_of, StaysWritten};
 
-    // A book over lent words, which never refuses. Have the words checked first: the rows that `words::check` finds are fixed,
-    // and the remaining threes are free. Whatever calls the book then goes through, its words hold its bounds. Over words that
-    // the check refuses the book has no bound and no free place.
+    /// A book over lent words, which never refuses. Have the words checked first: the rows that `words::check` finds are fixed,
+    /// and the remaining threes are free. Whatever calls the book then goes through, its words hold its bounds. Over words that
+    /// the check refuses the book has no bound and no free place.
     pub fn open(words: &'a mut [u32]) -> WordBook<'a>
         ensures lent { result.words ≡ words.entry }
         ensures opened { Opened words.old (meaning_of result) }
@@ -93,6 +94,7 @@ impl<'a> WordBook<'a> {
         WordBook { words, counts }
     }
 
+    #[inline(always)]
     fn rows(&self) -> usize
         ensures { result ≡ self.now.counts.fixed + self.now.counts.added }
     {
@@ -111,10 +113,12 @@ impl<'a> Book for WordBook<'a> {
 
     ghost cuts = { RowsCut };
 
+    #[inline(always)]
     fn fixed_count(&self) -> usize {
         self.counts.fixed
     }
 
+    #[inline(always)]
     fn added_count(&self) -> usize {
         self.counts.added
     }
@@ -123,6 +127,7 @@ impl<'a> Book for WordBook<'a> {
         self.counts.places - self.rows()
     }
 
+    #[inline(always)]
     fn read(&self, i: usize) -> Option<Bound> {
         let (rows, _) = self.words.as_chunks::<3>();
         let row = rows[..self.rows()].get(i)?;

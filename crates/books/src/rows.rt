@@ -8,8 +8,8 @@ ghost use Rattle.bounds.specs.Range.{Sound};
 use arrayvec::ArrayVec;
 use bounds::{Bound, Row};
 
-// Up to N plain rows: the inner table of the books that keep bounds of their own. That the rows are those of bounds is a ghost field
-// of those books: over lent words, a struct with a ghost field inside a book would keep the book from being moved into another.
+/// Up to N plain rows: the inner table of the books that keep bounds of their own. That the rows are those of bounds is a ghost field
+/// of those books: over lent words, a struct with a ghost field inside a book would keep the book from being moved into another.
 #[derive(Drop)]
 pub struct Rows<const N: usize> {
     rows: ArrayVec<Row, N>,
@@ -26,6 +26,7 @@ impl<const N: usize> Rows<N> {
         }
     }
 
+    #[inline(always)]
     pub(crate) fn len(&self) -> usize
         ensures { result ≡ length (listed self.now) }
     {
@@ -33,11 +34,15 @@ impl<const N: usize> Rows<N> {
     }
 
     // The bound of the row with the number `i`, or nothing exactly when there is none.
+    #[inline(always)]
     pub(crate) fn read(&self, i: usize) -> Option<Bound>
         requires { All Sound (listed self.now) }
         ensures { option_map row_of result ≡ slice_get (listed self.now) i }
     {
-        self.rows.get(i).map(|row| Bound::try_from(*row).unwrap())
+        match self.rows.get(i) {
+            Some(row) => Some(Bound { row: *row }),
+            None => None,
+        }
     }
 
     pub(crate) fn push(&mut self, bound: Bound)

@@ -13,7 +13,7 @@ use bounds::Bound;
 
 const PLACES: usize = 1_024;
 
-// The table book: it starts empty, with 1,024 places.
+/// The table book: it starts empty, with 1,024 places.
 #[derive(Drop)]
 pub struct Table {
     rows: Rows<PLACES>,
@@ -22,7 +22,7 @@ pub struct Table {
 }
 
 impl Table {
-    // A table with no bound.
+    /// A table with no bound.
     pub fn new() -> Table
         ensures { ⟦<Table as Book>⟧.meaning result ≡ table_of [] }
     {
@@ -48,10 +48,12 @@ impl Book for Table {
 
     ghost cuts = { λ _ _ _. Unit {0} };
 
+    #[inline(always)]
     fn fixed_count(&self) -> usize {
         0
     }
 
+    #[inline(always)]
     fn added_count(&self) -> usize {
         self.rows.len()
     }
@@ -60,6 +62,7 @@ impl Book for Table {
         PLACES - self.rows.len()
     }
 
+    #[inline(always)]
     fn read(&self, i: usize) -> Option<Bound> {
         self.rows.read(i)
     }

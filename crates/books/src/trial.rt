@@ -14,7 +14,7 @@ use bounds::Bound;
 
 const PLACES: usize = 64;
 
-// A trial: up to 64 bounds laid over any book, which stays as it is. The trial is itself a book, so trials may lie on trials.
+/// A trial: up to 64 bounds laid over any book, which stays as it is. The trial is itself a book, so trials may lie on trials.
 #[derive(Drop)]
 pub struct Trial<B: Book> {
     below: B,
@@ -24,7 +24,7 @@ pub struct Trial<B: Book> {
 }
 
 impl<B: Book> Trial<B> {
-    // A trial over a book, with nothing added yet. Whatever calls it then goes through, the book below stays the same. It never refuses.
+    /// A trial over a book, with nothing added yet. Whatever calls it then goes through, the book below stays the same. It never refuses.
     pub fn lay(below: B) -> Trial<B>
         ensures below { result.below ≡ below }
         ensures empty { ⟦<Trial<B> as Book>⟧.meaning result ≡ trial_over (B.meaning below) [] }
@@ -36,7 +36,7 @@ impl<B: Book> Trial<B> {
         }
     }
 
-    // The book below, unchanged; the trial's own bounds are let go.
+    /// The book below, unchanged; the trial's own bounds are let go.
     pub fn lift(self) -> B
         ensures { result ≡ self.below }
     {
@@ -54,10 +54,12 @@ impl<B: Book> Book for Trial<B> {
 
     ghost cuts = { BelowSame (λ t. t.below) };
 
+    #[inline(always)]
     fn fixed_count(&self) -> usize {
         self.below.count()
     }
 
+    #[inline(always)]
     fn added_count(&self) -> usize {
         self.own.len()
     }
@@ -67,6 +69,7 @@ impl<B: Book> Book for Trial<B> {
         PLACES.min(MOST - self.below.count()) - self.own.len()
     }
 
+    #[inline(always)]
     fn read(&self, i: usize) -> Option<Bound> {
         let below = self.below.count();
         if i < below {

@@ -1,4 +1,4 @@
-ghost use Rattle.std.specs.Prelude.{◌≡◌, ℕ, ◌*◌, ◌<◌, ◌≤◌, MatchOption, Decides};
+ghost use Rattle.std.specs.Prelude.{◌≡◌, ℕ, ◌*◌, ◌<◌, ◌≤◌, false, MatchOption, Decides};
 ghost use Rattle.std.specs.Ordering.{partial_le};
 ghost use Rattle.delays.specs.Faults.{PairRead};
 ghost use Rattle.delays.specs.Kind.{Kind, Exact, Within, Lawful, Parts, Unread};
@@ -36,6 +36,14 @@ pub trait Delay: Copy + Ord {
     // The sum, or nothing exactly when its size exceeds the reach.
     fn add(self, other: Self) -> Option<Self>
         ensures { MatchOption result (kind.reach < kind.size (kind.sum (means self) (means other))) (λ v. means v ≡ kind.sum (means self) (means other)) };
+
+    // Whether the sum is more than a third delay. It has an answer also where the sum is past the reach.
+    fn sum_exceeds(self, other: Self, third: Self) -> bool
+        ensures { Decides result (kind.leq (kind.sum (means self) (means other)) (means third) ≡ false) };
+
+    // What the kind computes of the parts t and s: the delay that has them, where there is one.
+    fn of_parts(t: i32, s: i32) -> Self
+        ensures { means result ≡ kind.value t s };
 
     // The parts t and s: two numbers, since a struct would only wrap what callers have as two.
     fn parts(self) -> (i64, i64)

@@ -10,6 +10,9 @@ pub(crate) const SMALL_PART: u64 = 500_000_000;
 // The greatest size of a number.
 pub(crate) const REACH: u64 = 1_099_511_627_776;
 
+// The same, to be compared with numbers of both signs.
+const LIMIT: i64 = REACH as i64;
+
 // A whole number of a size within the reach.
 #[derive(Clone, Copy, PartialEq, Eq, PartialOrd, Ord, Debug)]
 pub(crate) struct Number {
@@ -19,23 +22,34 @@ pub(crate) struct Number {
 
 impl Number {
     // The number, or nothing where it is past the reach.
+    #[inline(always)]
     pub(crate) fn new(value: i64) -> Option<Number>
         ensures { MatchOption result (number_reach < unsigned_abs value) (λ n. n.value ≡ value) }
     {
-        if value.unsigned_abs() <= REACH {
+        if -LIMIT <= value && value <= LIMIT {
             Some(Number { value })
         } else {
             None
         }
     }
 
+    // The sum as a plain number, also past the reach.
+    #[inline(always)]
+    pub(crate) fn plus(self, other: Number) -> i64
+        ensures { result ≡ self.value +ℤ other.value }
+    {
+        self.value + other.value
+    }
+
     // The sum, or nothing where it is past the reach.
+    #[inline(always)]
     pub(crate) fn checked_add(self, other: Number) -> Option<Number>
         ensures { MatchOption result (number_reach < unsigned_abs (self.value +ℤ other.value)) (λ n. n.value ≡ self.value +ℤ other.value) }
     {
-        Number::new(self.value + other.value)
+        Number::new(self.plus(other))
     }
 
+    #[inline(always)]
     pub(crate) fn value(self) -> i64
         ensures { result ≡ self.value }
     {
@@ -47,6 +61,7 @@ impl Number {
 impl From<i32> for Number {
     ghost from_gives = { λ value n. n.value ≡ value };
 
+    #[inline(always)]
     fn from(value: i32) -> Number {
         Number {
             value: value as i64,
@@ -59,6 +74,7 @@ impl Neg for Number {
 
     ghost neg_gives = { λ x n. n.value ≡ neg_ℤ x.value };
 
+    #[inline(always)]
     fn neg(self) -> Number {
         Number { value: -self.value }
     }

@@ -8,7 +8,7 @@ ghost use Rattle.delays.specs.RankedLaws.{ranked_lawful, ranked_ordered, ranked_
 use crate::delay::Delay;
 use crate::number::{Number, REACH, SMALL_PART};
 
-// A whole number of milliseconds, and a step inside one. The order is by t, and by s where t is the same.
+/// A whole number of milliseconds, and a step inside one. The order is by t, and by s where t is the same.
 #[derive(Clone, Copy, PartialEq, Eq, PartialOrd, Ord, Debug)]
 pub struct Ranked {
     t: Number,
@@ -42,6 +42,7 @@ impl Delay for Ranked {
 
     ghost within = { λ x. max_within x.t.within x.s.within };
 
+    #[inline(always)]
     fn zero() -> Ranked {
         Ranked {
             t: Number::from(0),
@@ -49,6 +50,7 @@ impl Delay for Ranked {
         }
     }
 
+    #[inline(always)]
     fn opposite(self) -> Ranked {
         Ranked {
             t: -self.t,
@@ -56,6 +58,7 @@ impl Delay for Ranked {
         }
     }
 
+    #[inline(always)]
     fn add(self, other: Ranked) -> Option<Ranked> {
         Some(Ranked {
             t: self.t.checked_add(other.t)?,
@@ -63,10 +66,26 @@ impl Delay for Ranked {
         })
     }
 
+    #[inline(always)]
+    fn sum_exceeds(self, other: Ranked, third: Ranked) -> bool {
+        let t = self.t.plus(other.t);
+        t > third.t.value() || (t == third.t.value() && self.s.plus(other.s) > third.s.value())
+    }
+
+    #[inline(always)]
+    fn of_parts(t: i32, s: i32) -> Ranked {
+        Ranked {
+            t: Number::from(t),
+            s: Number::from(s),
+        }
+    }
+
+    #[inline(always)]
     fn parts(self) -> (i64, i64) {
         (self.t.value(), self.s.value())
     }
 
+    #[inline(always)]
     fn read(t: i64, s: i64) -> Option<Ranked> {
         Some(Ranked {
             t: Number::new(t)?,

@@ -9,7 +9,7 @@ ghost use Rattle.delays.specs.TicksLaws.{ticks_lawful};
 use crate::delay::Delay;
 use crate::number::{Number, REACH, SMALL_PART};
 
-// A whole number of milliseconds.
+/// A whole number of milliseconds.
 #[derive(Clone, Copy, PartialEq, Eq, PartialOrd, Ord, Debug)]
 pub struct Ticks {
     t: Number,
@@ -42,24 +42,39 @@ impl Delay for Ticks {
 
     ghost within = { λ x. x.t.within };
 
+    #[inline(always)]
     fn zero() -> Ticks {
         Ticks { t: Number::from(0) }
     }
 
+    #[inline(always)]
     fn opposite(self) -> Ticks {
         Ticks { t: -self.t }
     }
 
+    #[inline(always)]
     fn add(self, other: Ticks) -> Option<Ticks> {
         Some(Ticks {
             t: self.t.checked_add(other.t)?,
         })
     }
 
+    #[inline(always)]
+    fn sum_exceeds(self, other: Ticks, third: Ticks) -> bool {
+        self.t.plus(other.t) > third.t.value()
+    }
+
+    #[inline(always)]
+    fn of_parts(t: i32, _s: i32) -> Ticks {
+        Ticks { t: Number::from(t) }
+    }
+
+    #[inline(always)]
     fn parts(self) -> (i64, i64) {
         (self.t.value(), 0)
     }
 
+    #[inline(always)]
     fn read(t: i64, s: i64) -> Option<Ticks> {
         if s == 0 {
             Some(Ticks { t: Number::new(t)? })

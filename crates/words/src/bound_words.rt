@@ -11,11 +11,11 @@ use crate::tag::{LEFT, TOP, Tag, points};
 use bounds::{Bound, Row};
 use std::fmt;
 
-// The three words of a bound: its head, its t and its s.
+/// The three words of a bound: its head, its t and its s.
 #[derive(Clone, Copy, PartialEq, Eq, Debug)]
 pub struct BoundWords(pub [u32; 3]);
 
-// The three words of a bound. The law of house words stands in this contract: rows have one writing, words one reading, a buffer one answer.
+/// The three words of a bound. The law of house words stands in this contract: rows have one writing, words one reading, a buffer one answer.
 impl From<Bound> for BoundWords {
     ghost from_gives = { λ b w. w.0 ≡ row_words (row_of b) };
 
@@ -41,10 +41,12 @@ pub(crate) fn read_row(first: u64, words: BoundWords) -> Result<Bound, WordFault
     let (left, right) = points(head).ok_or(WordFault::Word { place: first })?;
     let t = Tag::T.part(t).ok_or(WordFault::Word { place: first + 1 })?;
     let s = Tag::S.part(s).ok_or(WordFault::Word { place: first + 2 })?;
-    Ok(Bound::try_from(Row { left, right, t, s }).unwrap())
+    Ok(Bound {
+        row: Row { left, right, t, s },
+    })
 }
 
-// The bound of three words; or the first of them that breaks the row, which is fault 13 at its place, from 0.
+/// The bound of three words; or the first of them that breaks the row, which is fault 13 at its place, from 0.
 impl TryFrom<BoundWords> for Bound {
     type Error = WordFault;
 
@@ -55,7 +57,7 @@ impl TryFrom<BoundWords> for Bound {
     }
 }
 
-// The words in hexadecimal: `40000001 BFFFFFEC C0000000`.
+/// The words in hexadecimal: `40000001 BFFFFFEC C0000000`.
 impl fmt::Display for BoundWords {
     ghost output = { λ w. Some (words_text w.0) };
 

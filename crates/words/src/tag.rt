@@ -10,7 +10,7 @@ pub(crate) const TOP: u32 = 0x4000_0000;
 // The unit of the left point in a head, which is also one past the greatest point.
 pub(crate) const LEFT: u32 = 0x1000;
 
-const GREATEST_PART: u32 = 500_000_000;
+const GREATEST_PART: i32 = 500_000_000;
 
 // The words of a bound, each with its two top bits.
 #[derive(Clone, Copy)]
@@ -26,7 +26,7 @@ impl Tag {
         ensures { MatchOption result (¬ IsPart (bits_of self) word) (λ z. Part z × (word ≡ part_word (bits_of self) z)) }
     {
         let z = (word << 2).cast_signed() >> 2;
-        (word / TOP == self as u32 && z.unsigned_abs() <= GREATEST_PART).then_some(z)
+        (word / TOP == self as u32 && -GREATEST_PART <= z && z <= GREATEST_PART).then_some(z)
     }
 }
 

@@ -33,7 +33,8 @@ fn part(x: i64) -> Option<i32>
 }
 
 impl Bound {
-    // The bound of four numbers; or the first of them that is out of range, which is fault 7 at its place, from 1.
+    /// The bound of four numbers: the left and the right point, and the parts t and s. Or the first of them that is out of range,
+    /// which is fault 7 at its place, from 1.
     pub fn new(left: i64, right: i64, t: i64, s: i64) -> Result<Bound, BoundFault>
         ensures { Made left right t s result }
     {
@@ -46,7 +47,8 @@ impl Bound {
         })
     }
 
-    // The four numbers of the bound, all in range. It reads the bound's one field, so it is no conversion.
+    /// The four numbers of the bound, all in range: the bound's one field, with the promise of its range.
+    #[inline(always)]
     pub fn row(self) -> Row
         ensures value { result ≡ row_of self }
         ensures range { Sound result }
@@ -55,7 +57,7 @@ impl Bound {
     }
 }
 
-// The bound that a table's row stands for; or the first of its numbers that is out of range, as `Bound::new` refuses it.
+/// The bound of a row of which nothing is known; or the first of its numbers that is out of range, as `Bound::new` refuses it.
 impl TryFrom<Row> for Bound {
     type Error = BoundFault;
 
