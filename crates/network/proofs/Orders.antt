@@ -18,6 +18,10 @@ module _ {k : Kind} (laws : Lawful k) where
   pub le_lt_trans : (x y z : Exact k) → Le k x y → Lt k y z → Lt k x z
   le_lt_trans x y z l h = ⊎_elim (λ e. absurd (not_both k z y (laws.transitive z x y e l) h)) (λ e. e) (cases_Bool (k.leq z x))
 
+  -- below what is at most
+  pub lt_le_trans : (x y z : Exact k) → Lt k x y → Le k y z → Lt k x z
+  lt_le_trans x y z h l = ⊎_elim (λ e. absurd (not_both k y x (laws.transitive y z x l e) h)) (λ e. e) (cases_Bool (k.leq z x))
+
   -- a sum keeps the order of what is added
   pub sum_orders : (d x y : Exact k) → Le k x y → Le k (k.sum d x) (k.sum d y)
   sum_orders d x y h = rw (laws.comm d x, laws.comm d y) (laws.shifts x y d h)

@@ -21,19 +21,19 @@ pub all_back : {A : Type 0} (P : A → Type 0) (xs ys : List A) → All P (xs ++
 all_back P xs ys h = subst (All P) (drop-append_seam xs ys) (All-drop P (length xs) (xs ++ ys) h)
 
 -- a walk from r to q that comes to p, taken apart there
-record Parted {k : Kind} (p r q : ℕ) (row : Bounds k) : Type 0 where
-  front : Bounds k
-  back : Bounds k
-  split : row ≡ front ++ back
-  there : Walk r front p
-  onward : Walk p back q
-  apart : Apart (stops r row) → Apart (stops p back)
+pub record Parted {k : Kind} (p r q : ℕ) (row : Bounds k) : Type 0 where
+  pub front : Bounds k
+  pub back : Bounds k
+  pub split : row ≡ front ++ back
+  pub there : Walk r front p
+  pub onward : Walk p back q
+  pub apart : Apart (stops r row) → Apart (stops p back)
 
 -- a walk that does not come to p
-abbrev Off : {k : Kind} → ℕ → ℕ → Bounds k → Type 0
+abbrev pub Off : {k : Kind} → ℕ → ℕ → Bounds k → Type 0
 Off p r row = All (λ y. ¬ (p ≡ y)) (stops r row)
 
-seek : {k : Kind} (p r q : ℕ) (row : Bounds k) → Walk r row q → Parted p r q row ⊎ Off p r row
+pub seek : {k : Kind} (p r q : ℕ) (row : Bounds k) → Walk r row q → Parted p r q row ⊎ Off p r row
 seek {k} p r q [] w = go (cases_eq p r)
   where
     go : (p ≡ r) ⊎ (p ≡ r → ⊥) → Parted {k = k} p r q [] ⊎ Off {k = k} p r []
