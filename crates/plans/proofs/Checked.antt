@@ -117,11 +117,10 @@ module _ (k : Kind) (s : State) (length : ℕ) (b : Row) where
   }
 
   -- the kind's fault is carried whole
-  pub pair_answered : (r : Result (Unit {0}) PlanFault) (f : KindFault) → IsErrAnd r (λ e. e ≡ of_kind f) → s.settled ≡ true
-      → b.left < s.points → b.right < s.points
-      → Unread k b.t b.s → MatchResult r (λ u. Tries k s (post length b) (rows s ++ b ∷ [])) (Refused k s (post length b))
-  pair_answered (Ok u) f none on left right no_delay = absurd none
-  pair_answered (Err e) unread is on left right no_delay = record {
+  pub pair_answered : {U : Type 0} (P : U → Type 0) (r : Result U PlanFault) (f : KindFault) → IsErrAnd r (λ e. e ≡ of_kind f) → s.settled ≡ true
+      → b.left < s.points → b.right < s.points → Unread k b.t b.s → MatchResult r P (Refused k s (post length b))
+  pair_answered P (Ok u) f none on left right no_delay = absurd none
+  pair_answered P (Err e) unread is on left right no_delay = record {
     step = inr (
       λ off. both_ways s.settled off on,
       inr (λ out. omega (arith, out, left), inr (λ out. omega (arith, out, right), inl (no_delay, (ap refused is, refl)))),

@@ -22,7 +22,7 @@ use Rattle.plans.specs.Steps.{Ending, Unless, Check, EachBound, Conflicts, PostA
 use Rattle.plans.specs.Runs.{Opened, IsConflict, Judged, ConflictsTrue, ReadsLeast}
 use Rattle.plans.proofs.Timing.{settled_timed}
 use Rattle.plans.proofs.Misfitting.{inside}
-use Rattle.plans.proofs.Least.{times_least}
+use Rattle.relaxation.proofs.Rows.{times_least}
 
 -- a row of the book is in force
 pub row_in_force : (k : Kind) (n : ℕ) (rows : List Row) (r : Row) → Contains rows r → Contains (force k n rows) (exact_of k r)

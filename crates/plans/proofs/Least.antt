@@ -1,41 +1,36 @@
--- The least times are the earliest. Assumes nothing.
-use Rattle.std.proofs.Common.{◌≡◌, ℕ, ◌<◌, ⊎_elim, List, map, subst, sym, refl, inr, true, arith}
-use Rattle.std.specs.List.{All}
-use Rattle.std.proofs.lemmas.List.Elements.{All-map, All-weaker}
+-- Reading gives the earliest time. Assumes nothing.
+use Rattle.std.proofs.Common.{◌≡◌, ℕ, ◌<◌, List, map, ◌∙◌, subst, sym, refl, inr, true, arith}
+use Rattle.std.specs.List.{All, Contains}
 use Rattle.std.proofs.lemmas.Bool.{both_ways}
+use Rattle.std.proofs.lemmas.List.Elements.{All-weaker, All-contains, All-contains_itself}
 use Rattle.bounds.specs.declared.row.Row.{Row}
 use Rattle.delays.specs.Kind.{Kind, Exact, Lawful}
-use Rattle.network.specs.Bounds.{Inside}
+use Rattle.network.specs.Assignments.{Le, Meets}
+use Rattle.network.specs.Bounds.{ExactBound, Inside}
 use Rattle.network.specs.Earliest.{Earliest}
-use Rattle.network.proofs.Theorems.{chain_theory, earliest_theory, consistency}
-use Rattle.plans.specs.Rows.{exact_of, force, Fit, Times, Least}
+use Rattle.network.proofs.InForce.{force_inside}
+use Rattle.relaxation.proofs.Rows.{fit_inside, least_times}
+use Rattle.plans.specs.Rows.{exact_of, force, Fit, Least}
 use Rattle.plans.specs.Answers.{read, time}
 use Rattle.plans.specs.States.{State, rows}
 use Rattle.plans.specs.Steps.{Step}
 
--- the points of bounds that fit are below n
-pub fit_inside : (k : Kind) (n : ℕ) (rows : List Row) → All (Fit k n) rows → All (Inside k n) (map (exact_of k) rows)
-fit_inside k n rows fit =
-    All-map (Inside k n) (exact_of k) rows
-    (All-weaker (Fit k n) (λ r. Inside k n (exact_of k r)) (λ r f. record { left = f.left; right = f.right }) rows fit)
-
-module _ {k : Kind} (laws : Lawful k) (n : ℕ) (rows : List Row) (x : ℕ → Exact k) where
-  -- earliest times come before those of any assignment
-  pub times_least : Times k n rows x → Least k n rows x
-  times_least t = record {
-    solution = t.solution;
-    least = λ y s p h. (earliest_theory laws).least (force k n rows) p (x p) (t.earliest p h) y s;
-  }
-
-  -- Bounds that can be met have earliest times, which are an assignment too; so they and the least times are each at most the other.
-  pub least_times : 0 < n → All (Fit k n) rows → Least k n rows x → Times k n rows x
-  least_times some fit l = record {
-    solution = l.solution;
-    earliest = λ p h. ⊎_elim (λ c. absurd ((chain_theory laws).refutes (force k n rows) c.0 c.1 x l.solution))
-        (λ e. subst (Earliest k (force k n rows) p)
-        (laws.antisymmetric _ _ ((earliest_theory laws).least (force k n rows) p (e.0 p) (e.2 p h) x l.solution) (l.least e.0 e.1 p h))
-        (e.2 p h)) ((consistency laws).earliest n (map (exact_of k) rows) some (fit_inside k n rows fit));
-  }
+-- times that are the same at each of the n points are the least as well
+pub least_same : {k : Kind} (n : ℕ) (rows : List Row) → 0 < n → All (Fit k n) rows → {x y : ℕ → Exact k} → ((p : ℕ) → p < n → y p ≡ x p)
+    → Least k n rows x → Least k n rows y
+least_same {k} n rows some fit {x} {y} same l = record {
+  solution = record {
+    zero_first = same 0 some ∙ l.solution.zero_first;
+    meets = All-weaker (Contains (force k n rows)) (Meets k y) met (force k n rows) (All-contains_itself (force k n rows));
+  };
+  least = λ z s p h. rw (same p h) (l.least z s p h);
+}
+  where
+    met : (b : ExactBound k) → Contains (force k n rows) b → Meets k y b
+    met b has =
+        let at = All-contains (Inside k n) (force k n rows) b (force_inside k n (map (exact_of k) rows) some (fit_inside k n rows fit)) has in
+        let here : Meets k x b = All-contains (Meets k x) (force k n rows) b l.solution.meets has in
+        rw (same b.left at.left) (subst (λ z. Le k (x b.left) (k.sum z b.delay)) (sym (same b.right at.right)) here)
 
 -- reading a point of a settled plan gives its earliest time
 pub read_step : {k : Kind} → Lawful k → {s : State} {x : ℕ → Exact k} {p : ℕ} → s.settled ≡ true → 0 < s.points → All (Fit k s.points) (rows s)

@@ -1,16 +1,27 @@
 -- The check of each bound at settle, from the first that does not fit. Assumes nothing.
-use Rattle.std.proofs.Common.{◌≡◌, ℕ, zero, suc, ◌+◌, ◌<◌, List, [], ◌∷◌, length, Err, sym, refl, ap, ◌∙◌, subst, inl, inr, ⊎_elim, arith}
+use Rattle.std.proofs.Common.{◌≡◌, ℕ, zero, suc, ◌+◌, ◌<◌, List, [], ◌∷◌, length, ℤ, Ok, Err, Result, sym, refl, ap, ◌∙◌, subst, inl, inr, ⊎_elim, arith}
 use Rattle.std.specs.List.{All}
 use Rattle.bounds.specs.declared.row.Row.{Row}
-use Rattle.delays.specs.Kind.{Kind}
+use Rattle.delays.specs.Kind.{Kind, Exact, Within, Parts, Lawful}
+use Rattle.delays.specs.Faults.{PairRead}
+use Rattle.delays.specs.declared.fault.KindFault.{KindFault}
 use Rattle.delays.specs.declared.fault.KindFault.TheVariants.{Unread as unread}
 use Rattle.plans.specs.declared.fault.PlanFault.{PlanFault}
 use Rattle.plans.specs.declared.fault.PlanFault.TheVariants.{Point, Kind as KindRefuses}
 use Rattle.plans.specs.Rows.{Fit, Outside}
-use Rattle.plans.specs.Misfits.{Misfit, FitBefore, RowsChecked}
+use Rattle.relaxation.proofs.Rows.{value_of}
+use Rattle.plans.specs.Misfits.{PairChecked, Misfit, FitBefore, RowsChecked}
 use Rattle.plans.specs.Answers.{Answer, refused}
 use Rattle.plans.specs.States.{State, rows}
 use Rattle.plans.specs.Steps.{Ending, EachBound}
+
+-- a pair that is read gives the row's delay
+pub pair_checked : {X : Type 0} {k : Kind} (laws : Lawful k) (means : X → Exact k) → ((x : X) → Within k (means x)) → (r : Row) {t s : ℤ}
+    → t ≡ r.t → s ≡ r.s → (answer : Result X KindFault) → PairRead k means t s answer → PairChecked k means r answer
+pair_checked {k = k} laws means within r e f (Ok x) parts =
+    let own : Parts k (means x) r.t r.s = rw (e, f) at parts in
+    (λ none. none (means x) (within x) own, value_of laws (means x) r.t r.s (within x) own)
+pair_checked {k = k} laws means within r e f (Err fault) none = rw (e, f) at none
 
 -- a row with both points below n is not outside
 pub inside : (n : ℕ) (r : Row) → r.left < n → r.right < n → Outside n r → ⊥

@@ -1,6 +1,6 @@
 -- A pass over the rows of a book. Assumes nothing.
-use Rattle.std.proofs.Common.{◌≡◌, ℕ, ◌+◌, ◌<◌, length, get_or, take, Some, None, sym, subst}
-use Rattle.std.specs.List.{All}
+use Rattle.std.proofs.Common.{◌≡◌, ℕ, zero, suc, ◌+◌, ◌<◌, ◌≤◌, List, [], ◌∷◌, length, get_or, take, Some, None, sym, subst, arith}
+use Rattle.std.specs.List.{All, slice_get}
 use Rattle.std.proofs.lemmas.Option.{slice_get_within, get_or_from_slice_get}
 use Rattle.std.proofs.lemmas.List.{take_all}
 use Rattle.std.proofs.lemmas.List.Elements.{All-more}
@@ -9,7 +9,13 @@ use Rattle.bounds.specs.declared.bound.Bound.{Bound}
 use Rattle.bounds.specs.Making.{row_of}
 use Rattle.books.specs.Meaning.{Meaning, bounds_of}
 use Rattle.books.specs.Calls.{Reads}
-use Rattle.plans.proofs.Numbering.{none_past}
+use Rattle.std.proofs.lemmas.Option.{none-some}
+
+-- where nothing is read the list has ended
+none_past : {X : Type 0} (xs : List X) (i : ℕ) → slice_get xs i ≡ None → length xs ≤ i
+none_past [] i e = omega arith
+none_past (x ∷ xs) zero e = absurd (none-some x (sym e))
+none_past (x ∷ xs) (suc i) e = let h : length xs ≤ i = none_past xs i e in omega arith
 
 module _ (m : Meaning) (i : ℕ) where
   -- a number that reads a bound is below the count, and the bound's row has it

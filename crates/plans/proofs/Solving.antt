@@ -1,5 +1,5 @@
 -- What settle and post come to, once their checks are passed. Assumes nothing.
-use Rattle.std.proofs.Common.{◌≡◌, ◌≢◌, ℕ, ◌<◌, ◌≤◌, Bool, true, List, [], ◌∷◌, ◌++◌, length, Ok, Err, Result, refl, sym, ap, ◌∙◌, subst, inl, inr, arith}
+use Rattle.std.proofs.Common.{◌≡◌, ◌≢◌, ℕ, ◌<◌, ◌≤◌, Bool, true, List, [], ◌∷◌, ◌++◌, map, length, Ok, Err, Result, refl, sym, ap, ◌∙◌, subst, inl, inr, arith}
 use Rattle.std.proofs.Common.{append-nil, append_assoc, length-append}
 use Rattle.std.specs.List.{All}
 use Rattle.std.specs.Result.{IsErrAnd}
@@ -16,9 +16,11 @@ use Rattle.plans.specs.declared.fault.PlanFault.{PlanFault}
 use Rattle.plans.specs.declared.fault.PlanFault.TheVariants.{Conflict}
 use Rattle.plans.specs.declared.posted.Posted.{Posted}
 use Rattle.plans.specs.Faults.{of_book}
-use Rattle.plans.specs.declared.label.Label.{Label}
-use Rattle.plans.specs.declared.mark.Mark.{Mark}
-use Rattle.plans.specs.Labels.{label_time}
+use Rattle.network.specs.Edges.{time_of_point}
+use Rattle.relaxation.specs.ByLeft.{Lists}
+use Rattle.relaxation.specs.declared.by_left.ByLeft.{ByLeft}
+use Rattle.relaxation.proofs.Rows.{times_least}
+use Rattle.plans.specs.Marks.{Mark}
 use Rattle.plans.specs.Rows.{Fit, Covered, Times, moved_count}
 use Rattle.plans.specs.Conflicts.{ChainWritten}
 use Rattle.plans.specs.Answers.{Call, settle, post, settled as settled_answer, covered, moved, refused}
@@ -27,7 +29,7 @@ use Rattle.plans.specs.Steps.{Step}
 use Rattle.plans.specs.Runs.{Tries}
 use Rattle.plans.specs.Soundness.{Restores, Settled, Sound}
 use Rattle.plans.specs.Plans.{Refused, post_answer, ChainOrSame, AddedOrSame}
-use Rattle.plans.proofs.Least.{times_least}
+use Rattle.plans.proofs.Least.{least_same}
 use Rattle.plans.proofs.Checked.{settle_decided, post_decided}
 
 module _ (k : Kind) (s : State) {length : ℕ} {bounds : List Row} where
@@ -67,29 +69,27 @@ module _ (k : Kind) (s : State) {length : ℕ} {bounds : List Row} where
           post_decided k s length b tries (moved count) t (inr (bare, inr (x, new, inr (room, (old, before, (ap moved e, same))))))
 
 -- a plan that is settled with no mark open
-pub sound_settled : {k : Kind} → Lawful k → {X : Type 0} {means : X → Exact k} {book : Meaning} {n : ℕ} {labels : List (Label X)} {marks : List (Mark X)}
-    → 0 < n → n ≤ 128 → All (Fit k n) (bounds_of book) → Times k n (bounds_of book) (label_time k means labels) → marks ≡ []
-    → Sound k means book n true labels marks
-sound_settled {k = k} laws {means = means} {book = book} {n = n} {labels = labels} some few fit times none =
-    subst (Sound k means book n true labels) (sym none) (record {
+pub sound_settled : {k : Kind} → Lawful k → {X : Type 0} {means : X → Exact k} {book : Meaning} {n : ℕ} {times : List X} {index : ByLeft}
+    {marks : List (Mark X)} {found : ℕ → Exact k} → 0 < n → n ≤ 128 → All (Fit k n) (bounds_of book) → Times k n (bounds_of book) found
+    → ((p : ℕ) → p < n → time_of_point k means times p ≡ found p) → Lists index (map (λ r. r.left) (bounds_of book)) → marks ≡ []
+    → Sound k means book n true times index marks
+sound_settled {k = k} laws {means = means} {book = book} {n = n} {times = times} {index = index} {found = found} some few fit earliest same listed none =
+    subst (Sound k means book n true times index) (sym none) (record {
       marks_few = omega arith;
       unsettled = λ off. absurd (both_ways true off refl);
       settled_times = λ on. record {
         some = some;
         few = few;
         fit = fit;
-        least = times_least laws n (bounds_of book) (label_time k means labels) times;
+        least = least_same n (bounds_of book) some fit same (times_least laws n (bounds_of book) found earliest);
+        listed = listed;
         restores = λ i d h. absurd (let never : ⊥ = omega (arith, h) in never);
         rising = λ i j d l h. absurd (let never : ⊥ = omega (arith, h) in never);
       };
     })
 
-module _ {k : Kind} (laws : Lawful k) {X : Type 0} {means : X → Exact k} {book : Meaning} {n : ℕ} {labels : List (Label X)} {marks : List (Mark X)}
-    (sound : Settled k means book n labels marks) where
-  -- the kind reads each bound of a settled plan
-  pub all_read : All (λ r. Unread k r.t r.s → ⊥) (bounds_of book)
-  all_read = All-weaker (Fit k n) (λ r. Unread k r.t r.s → ⊥) (λ r f. f.read) (bounds_of book) sound.fit
-
+module _ {k : Kind} (laws : Lawful k) {X : Type 0} {means : X → Exact k} {book : Meaning} {n : ℕ} {times : List X} {index : ByLeft} {marks : List (Mark X)}
+    (sound : Settled k means book n times index marks) where
   -- one bound more: each mark is restored as before, since it noted fewer
   restores_posted : (b : Row) (m : Mark X) → Restores k means book n m → Restores k means (with_bounds book (b ∷ [])) n m
   restores_posted b m r = record {
@@ -97,21 +97,55 @@ module _ {k : Kind} (laws : Lawful k) {X : Type 0} {means : X → Exact k} {book
     least = rw (take-append-le m.added book.added (b ∷ []) r.added) r.least;
   }
 
-  pub sound_posted : {settled : Bool} {after : Meaning} → length marks ≤ 8 → (b : Row) (new : List (Label X)) → settled ≡ true → Fit k n b
-      → Times k n (bounds_of book ++ b ∷ []) (label_time k means new) → after ≡ with_bounds book (b ∷ []) → Sound k means after n settled new marks
-  sound_posted {settled = settled} {after = after} marks_few b new on fit times same =
-      subst (λ m. Sound k means m n settled new marks) (sym same) (record {
+  pub sound_posted : {settled : Bool} {after : Meaning} {found : ℕ → Exact k} → length marks ≤ 8 → (b : Row) (new : List X) (listing : ByLeft)
+      → settled ≡ true → Fit k n b → Times k n (bounds_of book ++ b ∷ []) found → ((p : ℕ) → p < n → time_of_point k means new p ≡ found p)
+      → after ≡ with_bounds book (b ∷ []) → Lists listing (map (λ r. r.left) (bounds_of after)) → Sound k means after n settled new listing marks
+  sound_posted {settled = settled} {after = after} {found = found} marks_few b new listing on fit earliest same_times same listed =
+      let all : All (Fit k n) (bounds_of book ++ b ∷ []) = All-push (Fit k n) (bounds_of book) b sound.fit fit in
+      let least = least_same n (bounds_of book ++ b ∷ []) sound.some all same_times (times_least laws n (bounds_of book ++ b ∷ []) found earliest) in
+      let here : Lists listing (map (λ r. r.left) (bounds_of (with_bounds book (b ∷ [])))) = rw same at listed in
+      subst (λ m. Sound k means m n settled new listing marks) (sym same) (record {
         marks_few = marks_few;
         unsettled = λ off. absurd (both_ways settled off on);
         settled_times = λ o. record {
           some = sound.some;
           few = sound.few;
-          fit = rw (append_assoc book.fixed book.added (b ∷ [])) at (All-push (Fit k n) (bounds_of book) b sound.fit fit);
-          least = rw (append_assoc book.fixed book.added (b ∷ [])) at (times_least laws n (bounds_of book ++ b ∷ []) (label_time k means new) times);
+          fit = rw (append_assoc book.fixed book.added (b ∷ [])) at all;
+          least = rw (append_assoc book.fixed book.added (b ∷ [])) at least;
+          listed = here;
           restores = All-weaker (Restores k means book n) (Restores k means (with_bounds book (b ∷ [])) n) (restores_posted b) marks sound.restores;
           rising = sound.rising;
         };
       })
+
+  -- the bounds are listed anew, and the book is the very same
+  pub sound_relisted : {settled : Bool} {after : Meaning} → length marks ≤ 8 → (listing : ByLeft) → settled ≡ true → after ≡ book
+      → Lists listing (map (λ r. r.left) (bounds_of after)) → Sound k means after n settled times listing marks
+  sound_relisted {settled = settled} {after = after} marks_few listing on same listed =
+      let here : Lists listing (map (λ r. r.left) (bounds_of book)) = rw same at listed in
+      subst (λ m. Sound k means m n settled times listing marks) (sym same) (record {
+        marks_few = marks_few;
+        unsettled = λ off. absurd (both_ways settled off on);
+        settled_times = λ o. record {
+          some = sound.some;
+          few = sound.few;
+          fit = sound.fit;
+          least = sound.least;
+          listed = here;
+          restores = sound.restores;
+          rising = sound.rising;
+        };
+      })
+
+  -- the bound is added or refused, and the times are those with it too
+  pub sound_kept : {S U : Type 0} (meaning : S → Meaning) (adds : S → Row → S → Type 0) {before after : S} {settled : Bool} → book ≡ meaning before
+      → length marks ≤ 8 → (b : Row) (listing : ByLeft) → settled ≡ true → Fit k n b → Times k n (bounds_of book ++ b ∷ []) (time_of_point k means times)
+      → (r : Result U BookFault) → Adding meaning adds before b after r → Lists listing (map (λ r. r.left) (bounds_of (meaning after)))
+      → Sound k means (meaning after) n settled times listing marks
+  sound_kept meaning adds e marks_few b listing on fit earliest (Ok u) added listed =
+      sound_posted marks_few b times listing on fit earliest (λ p l. refl) (added.1 ∙ ap (λ m. with_bounds m (b ∷ [])) (sym e)) listed
+  sound_kept meaning adds e marks_few b listing on fit earliest (Err Full) added listed =
+      sound_relisted marks_few listing on (ap meaning added.1 ∙ sym e) listed
 
 -- a book that refuses a bound has no free place, and is the very same
 pub adding_full : {S : Type 0} (meaning : S → Meaning) (adds : S → Row → S → Type 0) {before after : S} (row : Row) (U : Type 0) (f : BookFault)

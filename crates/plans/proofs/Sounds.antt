@@ -1,97 +1,99 @@
 -- What marks, and taking them away again, make of a sound plan. Assumes nothing.
-use Rattle.std.proofs.Common.{◌≡◌, ◌≢◌, ℕ, ◌+◌, ◌-◌, ◌≤◌, Bool, true, false, List, [], ◌∷◌, ◌++◌, length, take, get_or, slice_index, Option, Some, sym, refl}
+use Rattle.std.proofs.Common.{◌≡◌, ◌≢◌, ℕ, ◌+◌, ◌-◌, ◌<◌, ◌≤◌, Bool, true, false, List, [], ◌∷◌, ◌++◌, map, length, take, get_or, slice_index, sym, refl}
 use Rattle.std.proofs.Common.{ap, ◌∙◌, subst, arith, length-append}
-use Rattle.std.specs.List.{AllPairs}
-use Rattle.std.specs.Option.{option_to_list}
+use Rattle.std.specs.List.{All, AllPairs}
 use Rattle.std.proofs.Math.Seq.{take-append-add, take-append_seam, get_or-append_seam}
 use Rattle.std.proofs.lemmas.List.{length-take-le, get_or_append_left, take_all, take-take, length-map, map-append}
 use Rattle.std.proofs.lemmas.Bool.{both_ways}
-use Rattle.std.proofs.lemmas.List.Elements.{All-take, All-push, All-pop}
+use Rattle.std.proofs.lemmas.List.Elements.{All-take, All-push}
 use Rattle.std.proofs.lemmas.List.Quantifiers.{all_pairs_push}
 use Rattle.delays.specs.Kind.{Kind, Exact}
 use Rattle.network.specs.Edges.{time_of_point}
 use Rattle.books.specs.Meaning.{Meaning, bounds_of, cut_to}
-use Rattle.plans.specs.declared.label.Label.{Label}
-use Rattle.plans.specs.Labels.{label_time}
-use Rattle.plans.specs.declared.mark.Mark.{Mark}
+use Rattle.relaxation.specs.ByLeft.{Lists}
+use Rattle.relaxation.specs.declared.by_left.ByLeft.{ByLeft}
+use Rattle.plans.specs.Marks.{Mark}
 use Rattle.plans.specs.Rows.{Fit, Least}
 use Rattle.books.specs.Calls.{Cutting}
 use Rattle.plans.specs.States.{State}
 use Rattle.plans.specs.Plans.{counts}
 use Rattle.plans.specs.Soundness.{Restores, Settled, Sound}
+use Rattle.network.proofs.Shortening.{all_front}
+use Rattle.plans.proofs.Least.{least_same}
 
-module _ {X : Type 0} {k : Kind} {means : X → Exact k} {book : Meaning} {n : ℕ} {labels : List (Label X)} {marks : List (Mark X)} where
+module _ {X : Type 0} {k : Kind} {means : X → Exact k} {book : Meaning} {n : ℕ} {times : List X} {index : ByLeft} {marks : List (Mark X)} where
   -- the bounds of today can be restored
-  restores_today : (times : List X) → ((p : ℕ) → time_of_point k means times p ≡ label_time k means labels p) → Settled k means book n labels marks
-      → Restores k means book n (record { added = length book.added; times = times })
-  restores_today times same s = record {
+  restores_today : (noted : List X) → ((p : ℕ) → p < n → time_of_point k means noted p ≡ time_of_point k means times p) → Settled k means book n times index marks
+      → Restores k means book n (record { added = length book.added; times = noted })
+  restores_today noted same s = record {
     added = omega arith;
-    least = rw (take_all (length book.added) book.added (omega arith)) (subst (Least k n (bounds_of book)) (λ i p. sym (same p) i) s.least);
+    least = rw (take_all (length book.added) book.added (omega arith)) (least_same n (bounds_of book) s.some s.fit same s.least);
   }
 
   -- a mark more, of today's bounds and times
-  settled_marked : (times : List X) → ((p : ℕ) → time_of_point k means times p ≡ label_time k means labels p) → Settled k means book n labels marks
-      → Settled k means book n labels (marks ++ record { added = length book.added; times = times } ∷ [])
-  settled_marked times eq s = record {
+  settled_marked : (noted : List X) → ((p : ℕ) → p < n → time_of_point k means noted p ≡ time_of_point k means times p) → Settled k means book n times index marks
+      → Settled k means book n times index (marks ++ record { added = length book.added; times = noted } ∷ [])
+  settled_marked noted eq s = record {
     some = s.some;
     few = s.few;
     fit = s.fit;
     least = s.least;
-    restores = All-push (Restores k means book n) marks _ s.restores (restores_today times eq s);
+    listed = s.listed;
+    restores = All-push (Restores k means book n) marks _ s.restores (restores_today noted eq s);
     rising = all_pairs_push (λ x y. x.added ≤ y.added) marks _ s.rising (λ i d h. (s.restores i d h).added);
   }
 
-  pub sound_marked : {settled : Bool} {after : List (Mark X)} {added : ℕ} (times : List X)
-      → ((p : ℕ) → time_of_point k means times p ≡ label_time k means labels p) → settled ≡ true → length marks ≢ 8 → added ≡ length book.added
-      → after ≡ marks ++ record { added = added; times = times } ∷ [] → Sound k means book n settled labels marks → Sound k means book n settled labels after
-  sound_marked {settled = settled} {added = added} times eq on room e same h = record {
-    marks_few = omega (arith, h.marks_few, ap length same, length-append marks (record { added = added; times = times } ∷ []));
-    unsettled = λ off. absurd (both_ways settled off on);
-    settled_times = λ o. rw (same, e) (settled_marked times eq (h.settled_times o));
-  }
-
--- nothing is left of no marks
-none_left : {X : Type 0} {marks rest : List (Mark X)} (r : Option (Mark X)) → marks ≡ rest ++ option_to_list r → marks ≡ [] → rest ≡ []
-none_left {rest = rest} r e none = no_length rest (omega (arith, length-append rest (option_to_list r), ap length e, ap length none))
-  where
-    no_length : {Y : Type 0} (xs : List Y) → length xs ≡ 0 → xs ≡ []
-    no_length [] h = refl
-    no_length (x ∷ xs) h = absurd (omega arith)
+  pub sound_marked : {settled : Bool} {after : List (Mark X)} {added : ℕ} → settled ≡ true → length marks ≢ 8 → added ≡ length book.added
+      → (noted : List X) × (after ≡ marks ++ record { added = added; times = noted } ∷ [])
+      × ((p : ℕ) → p < n → time_of_point k means noted p ≡ time_of_point k means times p)
+      → Sound k means book n settled times index marks → Sound k means book n settled times index after
+  sound_marked {settled = settled} {added = added} on room e opened h =
+      let noted = opened.0 in
+      let same = opened.1 in
+      record {
+        marks_few = omega (arith, h.marks_few, ap length same, length-append marks (record { added = added; times = noted } ∷ []));
+        unsettled = λ off. absurd (both_ways settled off on);
+        settled_times = λ o. rw (same, e) (settled_marked noted opened.2 (h.settled_times o));
+      }
 
 -- the youngest mark is taken away
-module _ {X : Type 0} {k : Kind} {means : X → Exact k} {book : Meaning} {n : ℕ} {labels : List (Label X)} {rest : List (Mark X)} where
-  settled_popped : {marks : List (Mark X)} (r : Option (Mark X)) → marks ≡ rest ++ option_to_list r → Settled k means book n labels marks
-      → Settled k means book n labels rest
-  settled_popped r e s = record {
+module _ {X : Type 0} {k : Kind} {means : X → Exact k} {book : Meaning} {n : ℕ} {times : List X} {index : ByLeft} {rest : List (Mark X)} (m : Mark X) where
+  settled_popped : Settled k means book n times index (rest ++ m ∷ []) → Settled k means book n times index rest
+  settled_popped s = record {
     some = s.some;
     few = s.few;
     fit = s.fit;
     least = s.least;
-    restores = (All-pop (Restores k means book n) _ rest r e s.restores).0;
-    rising = λ i j d l h. rw (get_or_append_left rest (option_to_list r) d i (omega arith), get_or_append_left rest (option_to_list r) d j h)
-        at (subst (AllPairs (λ x y. x.added ≤ y.added)) e s.rising i j d l (omega (arith, length-append rest (option_to_list r))));
+    listed = s.listed;
+    restores = all_front (Restores k means book n) rest (m ∷ []) s.restores;
+    rising = λ i j d l h. rw (get_or_append_left rest (m ∷ []) d i (omega arith), get_or_append_left rest (m ∷ []) d j h)
+        at (s.rising i j d l (omega (arith, length-append rest (m ∷ []))));
   }
 
-  pub sound_popped : {marks : List (Mark X)} {settled : Bool} (r : Option (Mark X)) → marks ≡ rest ++ option_to_list r
-      → Sound k means book n settled labels marks → Sound k means book n settled labels rest
-  sound_popped r e h = record {
-    marks_few = omega (arith, h.marks_few, ap length e, length-append rest (option_to_list r));
-    unsettled = λ off. none_left r e (h.unsettled off);
-    settled_times = λ on. settled_popped r e (h.settled_times on);
+  pub sound_popped : {marks : List (Mark X)} {settled : Bool} → settled ≡ true → marks ≡ rest ++ m ∷ [] → Sound k means book n settled times index marks
+      → Sound k means book n settled times index rest
+  sound_popped {settled = settled} on e h = record {
+    marks_few = omega (arith, h.marks_few, ap length e, length-append rest (m ∷ []));
+    unsettled = λ off. absurd (both_ways settled off on);
+    settled_times = λ o. settled_popped (subst (Settled k means book n times index) e (h.settled_times o));
   }
 
   -- and what it noted is restored
-  settled_restored : (m : Mark X) (back : List (Label X)) → ((p : ℕ) → label_time k means back p ≡ time_of_point k means m.times p)
-      → Settled k means book n labels (rest ++ m ∷ []) → Settled k means (cut_to book m.added) n back rest
-  settled_restored m back eq s =
+  settled_restored : (back : List X) (listing : ByLeft) → ((p : ℕ) → p < n → time_of_point k means back p ≡ time_of_point k means m.times p)
+      → Lists listing (map (λ r. r.left) (bounds_of (cut_to book m.added)))
+      → Settled k means book n times index (rest ++ m ∷ []) → Settled k means (cut_to book m.added) n back listing rest
+  settled_restored back listing eq listed s =
       let youngest : Restores k means book n m =
       rw (get_or-append_seam rest m [] m) at (s.restores (length rest) m (omega (arith, length-append rest (m ∷ [])))) in
-      let others = settled_popped (Some m) refl s in
+      let others = settled_popped s in
+      let fit : All (Fit k n) (bounds_of (cut_to book m.added)) =
+      rw (take-append-add book.fixed book.added m.added) at (All-take (Fit k n) (length book.fixed + m.added) (bounds_of book) s.fit) in
       record {
         some = s.some;
         few = s.few;
-        fit = rw (take-append-add book.fixed book.added m.added) at (All-take (Fit k n) (length book.fixed + m.added) (bounds_of book) s.fit);
-        least = subst (Least k n (book.fixed ++ take m.added book.added)) (λ i p. sym (eq p) i) youngest.least;
+        fit = fit;
+        least = least_same n (bounds_of (cut_to book m.added)) s.some fit eq youngest.least;
+        listed = listed;
         restores = λ i d h.
             let at : Restores k means book n (get_or rest i d) = others.restores i d h in
             let under : (get_or rest i d).added ≤ m.added =
@@ -104,14 +106,15 @@ module _ {X : Type 0} {k : Kind} {means : X → Exact k} {book : Meaning} {n : �
         rising = others.rising;
       }
 
-  pub sound_restored : {marks : List (Mark X)} {settled : Bool} {after : Meaning} (m : Mark X) (back : List (Label X))
-      → ((p : ℕ) → label_time k means back p ≡ time_of_point k means m.times p) → marks ≡ rest ++ m ∷ []
-      → after ≡ cut_to book m.added → Sound k means book n settled labels marks → Sound k means after n settled back rest
-  sound_restored {settled = settled} {after = after} m back eq e same h =
-      subst (λ b. Sound k means b n settled back rest) (sym same) (record {
-        marks_few = (sound_popped (Some m) e h).marks_few;
-        unsettled = (sound_popped (Some m) e h).unsettled;
-        settled_times = λ on. settled_restored m back eq (subst (Settled k means book n labels) e (h.settled_times on));
+  pub sound_restored : {marks : List (Mark X)} {settled : Bool} {after : Meaning} (back : List X) (listing : ByLeft) → settled ≡ true
+      → ((p : ℕ) → p < n → time_of_point k means back p ≡ time_of_point k means m.times p) → marks ≡ rest ++ m ∷ []
+      → after ≡ cut_to book m.added → Lists listing (map (λ r. r.left) (bounds_of (cut_to book m.added)))
+      → Sound k means book n settled times index marks → Sound k means after n settled back listing rest
+  sound_restored {settled = settled} {after = after} back listing on eq e same listed h =
+      subst (λ b. Sound k means b n settled back listing rest) (sym same) (record {
+        marks_few = (sound_popped on e h).marks_few;
+        unsettled = (sound_popped on e h).unsettled;
+        settled_times = λ o. settled_restored back listing eq listed (subst (Settled k means book n times index) e (h.settled_times o));
       })
 
 -- the youngest mark is the one at the present depth: its count, and the counts of the others
@@ -136,11 +139,17 @@ cut_is meaning cuts true h few = h
 cut_is meaning cuts false h few = absurd (omega (arith, h.0, few))
 
 -- the youngest mark of a sound plan noted no more than the added bounds
-pub youngest_added : {X : Type 0} {k : Kind} {means : X → Exact k} {book : Meaning} {n : ℕ} {settled : Bool} {labels : List (Label X)} {marks : List (Mark X)}
-    (rest : List (Mark X)) (m : Mark X) → marks ≡ rest ++ m ∷ [] → settled ≡ true → Sound k means book n settled labels marks → m.added ≤ length book.added
+pub youngest_added : {X : Type 0} {k : Kind} {means : X → Exact k} {book : Meaning} {n : ℕ} {settled : Bool} {times : List X} {index : ByLeft} {marks : List (Mark X)}
+    (rest : List (Mark X)) (m : Mark X) → marks ≡ rest ++ m ∷ [] → settled ≡ true → Sound k means book n settled times index marks → m.added ≤ length book.added
 youngest_added {k = k} {means = means} {book = book} {n = n} {marks = marks} rest m e on h =
     (rw (e, get_or-append_seam rest m [] m) at ((h.settled_times on).restores (length rest) m (omega (arith, ap length e, length-append rest (m ∷ []))))).added
 
 -- plans with one book and the same counts are one
 pub state_same : {s t : State} → s.book ≡ t.book → s.points ≡ t.points → s.number ≡ t.number → s.settled ≡ t.settled → s.marks ≡ t.marks → s ≡ t
 state_same a b c d e = λ i. record { book = a i; points = b i; number = c i; settled = d i; marks = e i }
+
+-- open marks have a youngest
+pub youngest_of : {X : Type 0} (marks : List (Mark X)) → 0 < length marks → (before : List (Mark X)) × (m : Mark X) × (marks ≡ before ++ m ∷ [])
+youngest_of [] some = absurd (omega arith)
+youngest_of (x ∷ []) some = ([], x, refl)
+youngest_of {X} (x ∷ (y ∷ ys)) some = let r = youngest_of (y ∷ ys) (omega arith) in (x ∷ r.0, r.1, ap {B = List (Mark X)} (λ l. x ∷ l) r.2)

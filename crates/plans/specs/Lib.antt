@@ -5,12 +5,8 @@ pub mod States
 pub mod Steps
 pub mod Runs
 pub mod Conflicts
-pub mod Questions
-pub mod Labels
-pub mod Rounds
+pub mod Marks
 pub mod Soundness
 pub mod Plans
 pub mod Misfits
-pub mod Solved
-pub mod Trails
 pub mod Known

@@ -1,17 +1,17 @@
 -- The first bound of a book that a plan can't take, and why. Assumes nothing.
 use Rattle.std.specs.Prelude.{◌≡◌, ℕ, ◌<◌, List, length, take, Ok, Err, Result, slice_index_or, All}
 use Rattle.bounds.specs.declared.row.Row.{Row}
-use Rattle.delays.specs.Kind.{Kind, Unread}
+use Rattle.delays.specs.Kind.{Kind, Exact, Unread}
 use Rattle.delays.specs.declared.fault.KindFault.{KindFault}
 use Rattle.delays.specs.declared.fault.KindFault.TheVariants.{Unread as unread}
 use Rattle.plans.specs.declared.fault.PlanFault.{PlanFault}
 use Rattle.plans.specs.declared.fault.PlanFault.TheVariants.{Point, Kind as KindRefuses}
 use Rattle.plans.specs.Rows.{Fit, Outside}
 
--- the kind has a delay with the parts of the row, or none
-abbrev pub PairChecked : (k : Kind) → Row → Result (Unit {0}) KindFault → Type 0
-PairChecked k r (Ok _) = Unread k r.t r.s → ⊥
-PairChecked k r (Err e) = Unread k r.t r.s
+-- the delay that the row says, or the kind has none with its parts
+abbrev pub PairChecked : {X : Type 0} (k : Kind) → (X → Exact k) → Row → Result X KindFault → Type 0
+PairChecked k means r (Ok x) = (Unread k r.t r.s → ⊥) × (means x ≡ k.value r.t r.s)
+PairChecked k means r (Err e) = Unread k r.t r.s
 
 module _ (k : Kind) (n : ℕ) where
   -- the points of the row are below n, and the kind has no delay with its parts

@@ -11,7 +11,7 @@ use Rattle.books.specs.Meaning.{Meaning}
 use Rattle.books.specs.Calls.{Adding, Cutting}
 use Rattle.plans.specs.declared.fault.PlanFault.{PlanFault}
 use Rattle.plans.specs.declared.fault.PlanFault.TheVariants.{Conflict}
-use Rattle.plans.specs.declared.mark.Mark.{Mark}
+use Rattle.plans.specs.Marks.{Mark}
 use Rattle.plans.specs.declared.plan.Plan.{Plan}
 use Rattle.plans.specs.declared.posted.Posted.{Posted}
 use Rattle.plans.specs.declared.posted.Posted.TheVariants.{Covered, Moved}
@@ -29,7 +29,7 @@ counts marks = map (λ m. m.added) marks
 module _ {D B : Type 0} {d : delay.Ghosts D} {o : ord.Ghosts D} {q : part_eq.Ghosts D} {r : part_ord.Ghosts D} {b : book.Ghosts B} where
   -- what the program's plan is, but for its times
   abbrev pub state_of : Plan D B d o q r b → State
-  state_of p = record { book = b.meaning p.book; points = p.points; number = p.number; settled = p.settled; marks = counts p.marks.items }
+  state_of p = record { book = b.meaning p.book; points = p.points; number = p.number; settled = p.settled; marks = counts p.marks }
 
 -- What the program's results answer.
 module _ {k : Kind} where

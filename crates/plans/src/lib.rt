@@ -4,17 +4,11 @@
 mod checks;
 pub mod fault;
 pub mod known;
-mod label;
+mod listed;
 mod mark;
 pub mod plan;
 pub mod posted;
-mod question;
-mod round;
 pub mod slip;
-mod solve;
-mod spread;
-mod times;
-mod trace;
 
 pub use fault::PlanFault;
 pub use known::known_outcomes;

@@ -1,24 +1,26 @@
 ghost use Rattle.plans.specs.Soundness.{Sound};
 
-use crate::label::Label;
-use crate::mark::Mark;
-use arrayvec::ArrayVec;
+use crate::mark::Marks;
 use books::Book;
 use delays::Delay;
+use relaxation::{ByLeft, Spreading};
 
 pub mod calls;
 pub mod solving;
 
-// A plan: a book, a number of points whose events its bounds are about, a plan number, and up to eight open marks.
+/// A plan: a book, a number of points whose events its bounds are about, a plan number, and up to eight open marks.
 #[derive(Drop)]
 pub struct Plan<D: Delay, B: Book> {
     book: B,
     points: usize,
     number: u32,
     settled: bool,
-    // what the last relaxation knew of each point; where the plan is settled, its earliest time
-    labels: [Label<D>; 128],
+    // where the plan is settled, the earliest times of the points, and the bounds of the book by left point
+    times: [D; 128],
+    index: ByLeft,
     // the oldest first
-    marks: ArrayVec<Mark<D>, 8>,
-    ghost sound: { Sound D.kind D.means (B.meaning book) points settled labels marks.items },
+    marks: Marks<D>,
+    // where times spread
+    spreading: Spreading<D>,
+    ghost sound: { Sound D.kind D.means (B.meaning book) points settled times index marks },
 }
