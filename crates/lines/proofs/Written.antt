@@ -44,7 +44,7 @@ then_next None f g h e = refl
 then_next (Some d) f g h e = e d
 
 -- digits after others go on from the number that those write
-digits_append : (base n : ℕ) (xs ys : List ℕ) → digits_after base n (xs ++ ys) ≡ option_and_then (λ m. digits_after base m ys) (digits_after base n xs)
+pub digits_append : (base n : ℕ) (xs ys : List ℕ) → digits_after base n (xs ++ ys) ≡ option_and_then (λ m. digits_after base m ys) (digits_after base n xs)
 digits_append base n [] ys = refl
 digits_append base n (c ∷ cs) ys =
     then_next (digit base c) _ (λ d. digits_after base (n * base + d) cs) (λ m. digits_after base m ys) (λ d. digits_append base (n * base + d) cs ys)

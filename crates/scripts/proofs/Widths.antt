@@ -1,15 +1,25 @@
 -- How many bytes the words of an answer have. Assumes nothing.
-use Rattle.std.proofs.Common.{ℕ, ◌+◌, ◌^◌, ◌<◌, ◌≤◌, length, ℤ, pos, negsuc, ◌+ℤ◌, decimal, arith}
+use Rattle.std.proofs.Common.{◌≡◌, ℕ, ◌+◌, ◌/◌, ◌%◌, ◌^◌, ◌<◌, ◌≤◌, ◌∙◌, ap, length, ℤ, pos, negsuc, ◌+ℤ◌, decimal, arith}
 use Rattle.std.specs.Prelude.{unsigned_abs}
 use Rattle.std.specs.Int.{int_div_euclid}
 use Rattle.std.specs.Fmt.{signed_decimal}
-use Rattle.std.proofs.lemmas.Fmt.{length-decimal-le, length_signed_le}
+use Rattle.std.proofs.lemmas.Fmt.{decimal_step, decimal_nonempty, length-decimal-le, length_signed_le}
+use Rattle.std.proofs.lemmas.List.{length_push}
 use Rattle.std.proofs.lemmas.Int.{ints}
-use Rattle.faults.specs.declared.Layer.{Layer}
-use Rattle.faults.specs.declared.Layer.TheVariants.{Bounds, Kinds, Books, Plans, Lines}
-use Rattle.faults.specs.Faults.{letter_of}
 use Rattle.scripts.specs.Room.{ShortPart}
 use Rattle.scripts.specs.Texts.{hundredths}
+
+-- a number has a digit
+pub one_digit : (n : ℕ) → n < 2 ^ 64 → 1 ≤ length (decimal n)
+one_digit n fits = omega (arith, decimal_nonempty n fits)
+
+-- and one more than its tenth, where it has more
+pub digit_more : (n : ℕ) → 10 ≤ n → n < 2 ^ 64 → length (decimal n) ≡ length (decimal (n / 10)) + 1
+digit_more n more fits = ap length (decimal_step n more fits) ∙ length_push (decimal (n / 10)) (48 + n % 10)
+
+-- a number of 64 bits
+pub count_width : (n : ℕ) → n < 2 ^ 64 → length (decimal n) ≤ 20
+count_width n fits = length-decimal-le 20 n (omega arith) (omega (arith, fits)) fits
 
 -- a number of up to thirteen digits, and its minus
 signed_width : (z : ℤ) → unsigned_abs z + 1 < 10 ^ 13 → length (signed_decimal z) ≤ 14
@@ -33,14 +43,6 @@ five_more z = omega (arith, ints)
 pub hundredths_width : (t : ℤ) → ShortPart t → length (signed_decimal (hundredths t)) ≤ 14
 hundredths_width t short = signed_width (hundredths t) (omega (arith, tenth (t +ℤ pos 5), five_more t))
 
--- the number of a script's line
-pub number_width : (n : ℕ) → n ≤ 32768 → length (decimal n) ≤ 5
+-- the number of a script's line, and of a point
+pub number_width : (n : ℕ) → n < 2 ^ 16 → length (decimal n) ≤ 5
 number_width n few = length-decimal-le 5 n (omega arith) (omega arith) (omega arith)
-
--- the letter of a layer is one byte
-pub letter_byte : (l : Layer) → letter_of l < 128
-letter_byte Bounds = omega arith
-letter_byte Kinds = omega arith
-letter_byte Books = omega arith
-letter_byte Plans = omega arith
-letter_byte Lines = omega arith

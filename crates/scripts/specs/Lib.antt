@@ -1,10 +1,12 @@
 pub mod Faults
 pub mod Commands
 pub mod Texts
+pub mod Puts
 pub mod Sessions
 pub mod Ready
 pub mod SessionOf
 pub mod Room
+pub mod Cursor
 pub mod Lines
 pub mod Listings
 pub mod Prints

@@ -7,6 +7,7 @@ pub mod command;
 pub mod fault;
 pub mod listing;
 pub mod program;
+mod reader;
 mod script;
 mod session;
 mod text;

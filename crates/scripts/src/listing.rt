@@ -1,24 +1,17 @@
 // The listing of a script: the answer to each of its lines.
-ghost use Rattle.std.specs.Prelude.{◌≡◌, ◌+◌, ◌*◌, ◌≤◌, ◌++◌, length, take, drop, IfOk};
+ghost use Rattle.std.specs.Prelude.{◌*◌, ◌≤◌, length, IfOk};
 ghost use Rattle.scripts.specs.Lines.{script_lines};
 ghost use Rattle.scripts.specs.Listings.{Written, Listed, OneListing};
 ghost use Rattle.scripts.specs.Sessions.{TriesLeave};
 
 use crate::fault::ScriptFault;
-use crate::script::{line_count, next_line};
+use crate::reader::command_at;
+use crate::script::line_count;
 use crate::session::Session;
-use crate::text::{LINE_BYTES, answer_line};
+use crate::text::{LINE_BYTES, put_line};
 
 // The most bytes of a script.
 const SCRIPT_BYTES: usize = 32_768;
-
-// Writes the bytes at a place of the output.
-fn put(output: &mut [u8], place: usize, bytes: &[u8])
-    requires { place + length bytes.now ≤ length output.old }
-    ensures { output.new ≡ take place output.old ++ (bytes.now ++ drop (place + length bytes.now) output.old) }
-{
-    output[place..place + bytes.len()].copy_from_slice(bytes);
-}
 
 // Writes the listing, for which there is room.
 fn write_lines(script: &[u8], output: &mut [u8]) -> usize
@@ -28,15 +21,14 @@ fn write_lines(script: &[u8], output: &mut [u8]) -> usize
     ensures fits { result ≤ length output.old }
 {
     let mut session = Session::Unopened;
-    let mut left = script;
+    let mut at = 0;
     let mut number = 1;
     let mut written = 0;
-    while let Some((line, rest)) = next_line(left) {
-        let text = answer_line(number, session.answer(line));
-        put(output, written, text.as_str().as_bytes());
-        written += text.len();
+    'lines: while at < script.len() {
+        let (said, end) = command_at(script, at);
+        written = put_line(output, written, number, session.answer(said));
         number += 1;
-        left = rest;
+        at = end + 1;
     }
     written
 }

@@ -1,39 +1,50 @@
-// A script as lines.
-ghost use Rattle.std.specs.Prelude.{◌≡◌, ◌<◌, ◌≤◌, ◌==◌, [], ◌∷◌, length, IfSome, MatchOption};
-ghost use Rattle.std.specs.List.{position};
+// How many lines a script has.
+ghost use Rattle.std.specs.Prelude.{◌≡◌, ◌≤◌, ◌==◌, length, count_by};
 ghost use Rattle.scripts.specs.Lines.{script_lines};
 
-// Where the first line feed is.
-fn line_end(script: &[u8]) -> Option<usize>
-    ensures { result ≡ position (λ b. b == 10) script.now }
+// How many bytes are looked at together: so few that their line feeds can be counted in a byte.
+const BLOCK_BYTES: usize = 128;
+
+// How many line feeds are in so few bytes.
+#[inline(always)]
+fn feeds(block: &[u8]) -> u8
+    requires { length block.now ≤ 128 }
+    ensures { result ≡ count_by (λ b. b == 10) block.now }
 {
-    script.iter().position(|b| *b == b'\n')
+    let mut count = 0;
+    for b in block {
+        if *b == b'\n' {
+            count += 1;
+        }
+    }
+    count
 }
 
-// The next line of a script, and what is after it; or nothing where the script has ended.
-pub(crate) fn next_line(script: &[u8]) -> Option<(&[u8], &[u8])>
-    ensures lines { MatchOption result (script_lines script.now ≡ []) (λ p. script_lines script.now ≡ p.0.now ∷ script_lines p.1.now) }
-    ensures shorter { IfSome result (λ p. length p.1.now < length script.now) }
-{
-    if script.is_empty() {
-        return None;
-    }
-    match line_end(script) {
-        Some(end) => Some((&script[..end], &script[end + 1..])),
-        None => Some((script, &[])),
-    }
-}
-
-// How many lines a script has.
-pub(crate) fn line_count(script: &[u8]) -> usize
-    ensures value { result ≡ length (script_lines script.now) }
-    ensures few { result ≤ length script.now }
+// How many line feeds a script has.
+fn feed_count(script: &[u8]) -> usize
+    ensures { result ≡ count_by (λ b. b == 10) script.now }
 {
     let mut count = 0;
     let mut left = script;
-    while let Some((_, rest)) = next_line(left) {
-        count += 1;
+    'parts: while left.len() > BLOCK_BYTES {
+        let (block, rest) = left.split_at(BLOCK_BYTES);
+        count += usize::from(feeds(block));
         left = rest;
     }
-    count
+    count + usize::from(feeds(left))
+}
+
+// How many lines a script has: a line for each line feed, and one more where something stands after the last.
+pub(crate) fn line_count(script: &[u8]) -> usize
+    ensures { result ≡ length (script_lines script.now) }
+{
+    if script.is_empty() {
+        return 0;
+    }
+    let count = feed_count(script);
+    if script[script.len() - 1] == b'\n' {
+        count
+    } else {
+        count + 1
+    }
 }

@@ -1,4 +1,6 @@
 // A script's session: the plan that its lines are about, and what they are answered.
+ghost use Rattle.std.specs.Prelude.{ℕ, List};
+ghost use Rattle.scripts.specs.Commands.{CommandOf};
 ghost use Rattle.scripts.specs.Sessions.{CommandAnswered, LineAnswered, unopened};
 ghost use Rattle.scripts.specs.Room.{ShortTime};
 ghost use Rattle.scripts.specs.Ready.{Between};
@@ -6,7 +8,8 @@ ghost use Rattle.scripts.specs.SessionOf.{session_of};
 
 use crate::answer::Answer;
 use crate::asking::{fault_answer, obey, settled_plan};
-use crate::command::{Command, command_of};
+use crate::command::Command;
+use crate::fault::ScriptFault;
 use books::Table;
 use delays::{Ranked, Ticks};
 use faults::Fault;
@@ -42,32 +45,40 @@ impl Session {
         }
     }
 
+    // Begins here, where there is no plan. Apart from `obey`, since a function clears the room of its locals whenever it is called, and a plan is large.
+    #[inline(never)]
+    fn open(&mut self, command: Command) -> Answer
+        ensures answered { CommandAnswered unopened command result (session_of self.new) }
+        ensures between { Between (session_of self.new) }
+        ensures short { ShortTime result }
+    {
+        let (session, answer) = Session::begin(command);
+        *self = session;
+        answer
+    }
+
     // Carries out a command, and answers it.
-    pub(crate) fn obey(&mut self, command: Command) -> Answer
+    fn obey(&mut self, command: Command) -> Answer
         requires between { Between (session_of self.now) }
         ensures answered { CommandAnswered (session_of self.old) command result (session_of self.new) }
         ensures between { Between (session_of self.new) }
         ensures short { ShortTime result }
     {
         match self {
-            Session::Unopened => {
-                let (session, answer) = Session::begin(command);
-                *self = session;
-                answer
-            }
+            Session::Unopened => self.open(command),
             Session::Ticks(plan) => obey(plan, command),
             Session::Ranked(plan) => obey(plan, command),
         }
     }
 
-    // The answer to a line: a line that says no command changes nothing.
-    pub(crate) fn answer(&mut self, line: &[u8]) -> Answer
+    // The answer to a line, by what it says: a line that says no command changes nothing.
+    pub(crate) fn answer(&mut self, said: Result<Command, ScriptFault>) -> Answer
         requires between { Between (session_of self.now) }
-        ensures answered { LineAnswered (session_of self.old) line.now result (session_of self.new) }
+        ensures answered { (line : List ℕ) → CommandOf line said → LineAnswered (session_of self.old) line result (session_of self.new) }
         ensures between { Between (session_of self.new) }
         ensures short { ShortTime result }
     {
-        match command_of(line) {
+        match said {
             Ok(command) => self.obey(command),
             Err(fault) => Answer::Refused(Fault::from(fault)),
         }

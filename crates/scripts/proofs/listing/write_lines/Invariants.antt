@@ -1,10 +1,10 @@
-use Rattle.std.proofs.Common.{length}
+use Rattle.std.proofs.Common.{◌-◌, length, drop}
 use Rattle.scripts.specs.SessionOf.{session_of}
 use Rattle.scripts.proofs.Progress.{Progress}
 use Rattle.scripts.proofs.listing.write_lines.Given as goal
 
-abbrev pub invariant-loop-line : goal.invariant-loop-line
-invariant-loop-line l = Progress l.script l.initial.output l.output (session_of l.session) l.number l.written l.left
+abbrev pub invariant-lines : goal.invariant-lines
+invariant-lines l = Progress l.script l.initial.output l.output (session_of l.session) l.number l.written (drop l.at l.script)
 
-abbrev pub decreases-loop-line : goal.decreases-loop-line
-decreases-loop-line l = length l.left
+abbrev pub decreases-lines : goal.decreases-lines
+decreases-lines l = length l.script - l.at
