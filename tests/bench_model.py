@@ -12,6 +12,7 @@ BENCH = Path(__file__).resolve().parent.parent / "crates/bench/out/bench"
 MOST = 65_535
 SPAN = 10_000_000
 PLAY = SPAN // 2
+STEP = 1_000
 PARTS = ["marks", "covered", "still", "moving", "conflict"]
 
 
@@ -42,6 +43,17 @@ def made(bounds, points):
         else:
             left, right = draws.below(points), draws.below(points)
             yield met(left, right, SPAN + draws.below(SPAN))
+
+
+def made_slow(bounds, points):
+    """From each point down to each lower one but point 0, twice, and then bounds from point 1 that never move a point."""
+    down = [(left, right) for left in range(2, points) for right in [*range(1, left), *reversed(range(1, left))]]
+    for left, right in down[:bounds]:
+        yield left, right, -(STEP * (left - right) + 1)
+    draws = Draws(1)
+    for _ in range(bounds - len(down)):
+        right = draws.below(points)
+        yield 1, right, SPAN + draws.below(SPAN)
 
 
 def earliest(points, bounds):
@@ -76,12 +88,14 @@ def to_post(part, draws, points, times):
         return met(max(one, other), min(one, other), PLAY + draws.below(PLAY))
     if part == "conflict":
         return points - 1, 0, times[-1] - 1
+    if part == "slow":
+        return 0, points - 1, -(STEP + draws.below(PLAY))
     count = draws.below(points - 1) + 1 if part == "moving" else int(part)
     return met(0, max(points - count, 0), draws.below(PLAY))
 
 
 def model(number, points, rounds, asked):
-    bounds = list(made(number, points))
+    bounds = list((made_slow if asked == "slow" else made)(number, points))
     places = min(number + rounds, MOST)
     times = earliest(points, bounds)
     settled = sum(time != 0 for time in times)
@@ -133,11 +147,12 @@ def main():
     rng = random.Random(int(sys.argv[2]) if len(sys.argv) > 2 else 1)
     compare(2000, 128, 20, "all")
     compare(MOST, 128, 5, "all")
+    compare(12_000, 100, 5, "slow")
     for _ in range(runs):
         points = rng.randint(2, 40)
-        part = rng.choice(["all", "all", "marks", "covered", "still", "conflict", str(rng.randint(1, points - 1))])
+        part = rng.choice(["all", "all", "marks", "covered", "still", "conflict", "slow", str(rng.randint(1, points - 1))])
         compare(rng.randint(points - 1, 400), points, rng.randint(0, 60), part)
-    print(f"{runs + 2} runs, no difference")
+    print(f"{runs + 3} runs, no difference")
 
 
 main()

@@ -1,5 +1,7 @@
 // Bounds that can be met together: hidden times meet each with a slack.
 use crate::asked::Asked;
+use crate::part::Part;
+use crate::slow::add_slow;
 use bounds::{Bound, BoundFault};
 use std::alloc::Global;
 use words::BoundWords;
@@ -8,7 +10,7 @@ use words::BoundWords;
 const MOST: usize = 65_535;
 
 // In milliseconds. The hidden times of all points but point 0, and the slacks of random bounds, are from this to twice this.
-const SPAN: u32 = 10_000_000;
+pub(crate) const SPAN: u32 = 10_000_000;
 
 // The slack of the first hop, which no other way from point 0 falls below: so much each point of the path can still be moved.
 pub(crate) const PLAY: u32 = SPAN / 2;
@@ -68,13 +70,22 @@ fn bound(draws: &mut Draws, points: u8, after: u16) -> Result<Bound, BoundFault>
     }
 }
 
-// The words of all bounds, and a place more for each round while a word book has places.
-pub(crate) fn make_words(heap: Global, asked: &Asked) -> anyhow::Result<Vec<u32>> {
+// The bounds of a book that settles fast: random ones, and then the hops.
+fn add_met(words: &mut Vec<u32>, asked: &Asked) -> anyhow::Result<()> {
     let mut draws = Draws::new(1);
-    let mut words = Vec::new(heap);
     for after in (0..asked.bounds).rev() {
         let bound = bound(&mut draws, asked.points, after)?;
         words.extend_from_slice(&BoundWords::from(bound).0)?;
+    }
+    Ok(())
+}
+
+// The words of all bounds, and a place more for each round while a word book has places.
+pub(crate) fn make_words(heap: Global, asked: &Asked) -> anyhow::Result<Vec<u32>> {
+    let mut words = Vec::new(heap);
+    match asked.part {
+        Some(Part::Slow) => add_slow(&mut words, asked)?,
+        _ => add_met(&mut words, asked)?,
     }
     let rows = (usize::from(asked.bounds) + asked.rounds as usize).min(MOST);
     words.resize(3 * rows, 0)?;

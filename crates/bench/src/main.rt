@@ -11,6 +11,7 @@ mod asked;
 mod load;
 mod part;
 mod rounds;
+mod slow;
 mod tally;
 
 use asked::Asked;

@@ -15,6 +15,8 @@ pub(crate) enum Part {
     Moving { count: u32 },
     // posts a bound that can't be met
     Conflict,
+    // is over the slow book, and posts a bound that moves all its points
+    Slow,
 }
 
 #[derive(Clone, Copy, Debug)]
@@ -23,7 +25,7 @@ pub(crate) struct UnknownPart;
 impl fmt::Display for UnknownPart {
     fn fmt<W: fmt::Write>(&self, f: &mut fmt::Formatter<W>) -> fmt::Result {
         f.write_str(
-            "PART is none of all, marks, covered, still, conflict, nor a number of points to be moved",
+            "PART is none of all, marks, covered, still, conflict, slow, nor a number of points to be moved",
         )
     }
 }
@@ -39,6 +41,7 @@ impl FromStr for Part {
             "covered" => Ok(Part::Covered),
             "still" => Ok(Part::Still),
             "conflict" => Ok(Part::Conflict),
+            "slow" => Ok(Part::Slow),
             _ => match name.parse::<u32>() {
                 Ok(count) => Ok(Part::Moving { count }),
                 Err(_) => Err(UnknownPart),

@@ -2,6 +2,7 @@
 use crate::asked::Asked;
 use crate::load::{Draws, PLAY, met};
 use crate::part::Part;
+use crate::slow::moving_slow;
 use crate::tally::Tally;
 use books::Book;
 use bounds::{Bound, BoundFault};
@@ -64,6 +65,7 @@ fn to_post<B: Book>(
         Part::Still => Some(still(draws, points)?),
         Part::Moving { count } => Some(moving(draws, points, count)?),
         Part::Conflict => Some(conflict(plan, points)?),
+        Part::Slow => Some(moving_slow(draws, points)?),
     })
 }
 
