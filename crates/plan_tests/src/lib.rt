@@ -21,3 +21,7 @@ mod script_setups;
 mod settle_edges;
 #[cfg(test)]
 mod setups;
+#[cfg(test)]
+mod spreading_edges;
+#[cfg(test)]
+mod undo_edges;

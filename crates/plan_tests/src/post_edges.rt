@@ -1,5 +1,7 @@
 // Posts that move points, that move none, that are covered, that conflict, and that find no free place.
-use crate::setups::{Answer, Call, Numbers, TickPlan, counts, play, play_on, post, settled};
+use crate::setups::{
+    Answer, Call, FIRST, FLOOR, Numbers, POSTED, TickPlan, counts, play, play_on, post, settled,
+};
 use books::{Book, BookFault, Table, Trial, WordBook};
 use bounds::Bound;
 use delays::{Ranked, Ticks};
@@ -7,13 +9,6 @@ use plans::{Plan, PlanFault, Posted};
 use std::process::Abort;
 use std::test::Fail;
 use words::BoundWords;
-
-const POSTED: u32 = 0xC000_0000;
-
-// The words of the first bound of the book, and of the floor of point 0.
-const FIRST: u32 = 0x4000_0000;
-
-const FLOOR: u32 = 0x8000_0000;
 
 // Point 1 is at most 5 after point 0, and at least 5.
 #[test]

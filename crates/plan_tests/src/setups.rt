@@ -11,6 +11,13 @@ pub(crate) type TickPlan = Plan<Ticks, Table>;
 // The numbers left, right, t and s of a bound.
 pub(crate) type Numbers = [i64; 4];
 
+// The words of a posted bound, of the first bound of the book, and of the floor of point 0.
+pub(crate) const POSTED: u32 = 0xC000_0000;
+
+pub(crate) const FIRST: u32 = 0x4000_0000;
+
+pub(crate) const FLOOR: u32 = 0x8000_0000;
+
 // How a mark is closed.
 #[derive(Clone, Copy)]
 pub(crate) enum End {
@@ -212,6 +219,13 @@ pub(crate) fn play<D: Delay, B: Book>(
             (*expected, true),
             "call {number}"
         );
+    }
+}
+
+// The points from point 0 on have these times.
+pub(crate) fn check_times(rt: &impl Abort, plan: &mut TickPlan, times: &[i64]) {
+    for (point, time) in times.iter().enumerate() {
+        play(rt, plan, &[(Call::Read(point), Answer::Time(*time, 0))]);
     }
 }
 
