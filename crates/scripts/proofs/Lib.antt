@@ -4,6 +4,7 @@ pub mod Numbers
 pub mod Widths
 pub mod Putting
 mod Progress
+mod Beginning
 pub mod Lines
 pub mod Counting
 pub mod Cursors

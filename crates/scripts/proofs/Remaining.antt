@@ -1,7 +1,6 @@
 -- What the calls on a plan leave of it. Assumes nothing.
 use Rattle.std.proofs.Common.{◌≡◌, ℕ, ◌+◌, ◌-◌, true, false, ◌⊎◌, List, [], ◌∷◌, ◌++◌, length, take}
-use Rattle.std.proofs.Common.{sym, refl, ap, ◌∙◌, subst, inl, inr, arith, ℤ, Ok, Err, Result}
-use Rattle.std.specs.Result.{IsErrAnd}
+use Rattle.std.proofs.Common.{sym, refl, ap, ◌∙◌, subst, inl, inr, arith, ℤ}
 use Rattle.bounds.specs.declared.row.Row.{Row}
 use Rattle.books.specs.Layers.{table_of}
 use Rattle.books.specs.Meaning.{Meaning}
@@ -13,7 +12,7 @@ use Rattle.plans.specs.Steps.{Ending, Becomes, Unless, Check, EachBound, Conflic
 use Rattle.scripts.specs.declared.answer.Answer.{Answer as LineAnswer}
 use Rattle.scripts.specs.declared.answer.Answer.TheVariants.{Settled}
 use Rattle.scripts.specs.Sessions.{Session, unopened, Opens, of_fault, list_length, new_plan, SettledNew}
-use Rattle.scripts.specs.Ready.{Ready, StaysUnsettled, Settles}
+use Rattle.scripts.specs.Ready.{Ready}
 
 -- the plan is settled as it was, with its number and its open marks
 pub record Kept (s t : State) : Type 0 where
@@ -126,7 +125,7 @@ module _ {k : Kind} where
           record { settled = ap (λ (s : State). s.settled) same; unmarked = ap (λ (s : State). s.marks) same ∙ none }
 
   -- a settle that is refused leaves the plan unsettled
-  pub settle_stays : (s : State) (l : ℕ) (e : PlanFault) (t : State) → Step k s (settle l) (refused e) t → s.settled ≡ false → t.settled ≡ true → ⊥
+  settle_stays : (s : State) (l : ℕ) (e : PlanFault) (t : State) → Step k s (settle l) (refused e) t → s.settled ≡ false → t.settled ≡ true → ⊥
   settle_stays s l e t p before after = go (settle_ends s l (refused e) t p)
     where
       go : (((f : PlanFault) × (◌≡◌ {A = Answer k} (refused e) (refused f)) × (t ≡ s)) ⊎ Settling s (refused e) t) → ⊥
@@ -137,26 +136,14 @@ module _ {k : Kind} where
 pub opened_empty : (s : State) (m : Meaning) (given points : ℕ) → s ≡ opened m given 0 → m ≡ table_of [] → given ≡ points → s ≡ opened (table_of []) points 0
 opened_empty s m given points is empty same = cc
 
-module _ {k : Kind} {P : Type 0} (state : P → State) (n : ℤ) where
-  -- a plan that is not settled is refused
-  pub settles_not : (r : Result (P × ℕ) PlanFault) (e : PlanFault) (t : State) → IsErrAnd r (λ f. f ≡ e)
-      → SettledNew k n (refused e) t → Settles k state n r
-  settles_not (Ok p) e t none step = absurd none
-  settles_not (Err f) e t same step = (
-    t,
-    subst (λ f. SettledNew k n (refused f) t) (sym same) step,
-    settle_stays (new_plan n) list_length e t step refl,
-  )
-
-module _ {k : Kind} {m n : ℤ} (same : m ≡ n) (session : State → Session) where
-  -- a plan that is settled opens a session
-  pub opens_settled : (t : State) (count : ℕ) → SettledNew k m (settled count) t × Ready t
-      → Opens k session n (Settled count) (session t)
-  opens_settled t count h =
-      let step = subst (λ (n : ℤ). SettledNew k n (settled count) t) same h.0 in
-      (settled count, t, step, refl, inl (h.1.settled, refl))
+module _ {k : Kind} (n : ℤ) (s t : State) (new : s ≡ new_plan n) (session : State → Session) where
+  -- a new plan that is settled opens a session
+  pub opens_settled : (count : ℕ) → Step k s (settle list_length) (settled count) t → Ready t → Opens k session n (Settled count) (session t)
+  opens_settled count step ready =
+      (settled count, t, subst (λ (s : State). Step k s (settle list_length) (settled count) t) new step, refl, inl (ready.settled, refl))
 
   -- and a refused one opens none
-  pub opens_none : (e : PlanFault) (a : LineAnswer) → a ≡ of_fault e → StaysUnsettled k m e → Opens k session n a unopened
-  opens_none e a says h =
-      (refused e, h.0, subst (λ (n : ℤ). SettledNew k n (refused e) h.0) same h.1, says, inr (h.2, refl))
+  pub opens_none : (e : PlanFault) (a : LineAnswer) → a ≡ of_fault e → Step k s (settle list_length) (refused e) t → Opens k session n a unopened
+  opens_none e a says step =
+      let first : SettledNew k n (refused e) t = subst (λ (s : State). Step k s (settle list_length) (refused e) t) new step in
+      (refused e, t, first, says, inr (settle_stays (new_plan n) list_length e t first refl, refl))

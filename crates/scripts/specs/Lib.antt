@@ -4,9 +4,9 @@ pub mod Texts
 pub mod Puts
 pub mod Sessions
 pub mod Ready
-pub mod SessionOf
 pub mod Room
 pub mod Cursor
 pub mod Lines
 pub mod Listings
+pub mod Planned
 pub mod Prints

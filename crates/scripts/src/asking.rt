@@ -1,24 +1,26 @@
 // What a plan answers to the lines about it.
-ghost use Rattle.std.specs.Prelude.{◌≡◌};
+ghost use Rattle.std.specs.Prelude.{◌≡◌, ℕ, List};
 ghost use Rattle.bounds.specs.Making.{row_of};
 ghost use Rattle.delays.specs.Kind.{Kind};
 ghost use Rattle.plans.specs.Plans.{state_of, post_answer, read_answer};
 ghost use Rattle.scripts.specs.declared.command.Command.TheVariants.{Post, Read};
 ghost use Rattle.scripts.specs.Sessions.{of_fault, Told, Tried, Obeys, points_of};
+ghost use Rattle.scripts.specs.Commands.{CommandOf};
+ghost use Rattle.scripts.specs.Planned.{PlanAnswered};
 ghost use Rattle.scripts.specs.Room.{ShortTime};
-ghost use Rattle.scripts.specs.Ready.{Ready, ShortParts, Settles};
+ghost use Rattle.scripts.specs.Ready.{Ready, ShortParts};
 
 use crate::answer::Answer;
 use crate::command::Command;
 use crate::fault::ScriptFault;
-use books::{Book, Table};
+use books::Book;
 use bounds::Bound;
 use delays::Delay;
 use faults::Fault;
 use plans::{Plan, PlanFault, Posted};
 
-// The length of the list of each settle and post: it has room for each chain.
-const LIST_LENGTH: usize = 128;
+// The length of the list that is lent to each settle and post: it has room for each chain.
+pub(crate) const LIST_LENGTH: usize = 128;
 
 // A conflict has a letter of its own; another fault is told by its number, layer and place.
 pub(crate) fn fault_answer(fault: PlanFault) -> Answer
@@ -59,19 +61,27 @@ fn time_answer<D: Delay>(point: u16, outcome: Result<D, PlanFault>) -> Answer
 }
 
 // Posts the bound between a mark and a back.
-fn try_bound<D: Delay, B: Book>(plan: &mut Plan<D, B>, bound: Bound) -> Result<Posted, PlanFault>
+fn try_bound<D: Delay, B: Book>(
+    plan: &mut Plan<D, B>,
+    bound: Bound,
+    list: &mut [u32; LIST_LENGTH],
+) -> Result<Posted, PlanFault>
     requires ready { Ready (state_of plan.now) }
     ensures tried { Tried D.kind (state_of plan.old) (row_of bound) (post_answer result) (state_of plan.new) }
     ensures ready { Ready (state_of plan.new) }
 {
     let slip = plan.mark()?;
-    let outcome = plan.post(bound, &mut [0; LIST_LENGTH]);
+    let outcome = plan.post(bound, list);
     plan.back(slip)?;
     outcome
 }
 
-// The answer to a line about a settled plan.
-pub(crate) fn obey<D: Delay, B: Book>(plan: &mut Plan<D, B>, command: Command) -> Answer
+// Carries out a command to a settled plan, and answers it.
+fn obey<D: Delay, B: Book>(
+    plan: &mut Plan<D, B>,
+    command: Command,
+    list: &mut [u32; LIST_LENGTH],
+) -> Answer
     requires parts { ShortParts D.kind }
     requires ready { Ready (state_of plan.now) }
     ensures obeys { Obeys D.kind (state_of plan.old) command result (state_of plan.new) }
@@ -82,24 +92,33 @@ pub(crate) fn obey<D: Delay, B: Book>(plan: &mut Plan<D, B>, command: Command) -
         Command::Ticks { points: _ } | Command::Ranked { points: _ } => fault_answer(
             PlanFault::SettledAlready,
         ),
-        Command::Post { bound } => posted_answer(plan.post(bound, &mut [0; LIST_LENGTH])),
-        Command::Try { bound } => posted_answer(try_bound(plan, bound)),
+        Command::Post { bound } => posted_answer(plan.post(bound, list)),
+        Command::Try { bound } => posted_answer(try_bound(plan, bound, list)),
         Command::Read { point } => time_answer(point, plan.read(usize::from(point))),
     }
 }
 
+// The answer to a line about a settled plan, by what it says: a line that says no command changes nothing.
+pub(crate) fn answer<D: Delay, B: Book>(
+    plan: &mut Plan<D, B>,
+    said: Result<Command, ScriptFault>,
+    list: &mut [u32; LIST_LENGTH],
+) -> Answer
+    requires parts { ShortParts D.kind }
+    requires ready { Ready (state_of plan.now) }
+    ensures answered { (line : List ℕ) → CommandOf line said → PlanAnswered D.kind (state_of plan.old) line result (state_of plan.new) }
+    ensures ready { Ready (state_of plan.new) }
+    ensures short { ShortTime result }
+{
+    match said {
+        Ok(command) => obey(plan, command, list),
+        Err(fault) => Answer::Refused(Fault::from(fault)),
+    }
+}
+
 // There can't be fewer than no points, and a plan of none is refused.
-fn point_count(points: i64) -> usize
+pub(crate) fn point_count(points: i64) -> usize
     ensures { result ≡ points_of points }
 {
     usize::try_from(points).unwrap_or(0)
-}
-
-// A plan over an empty table, settled, and how many of its times are not zero.
-pub(crate) fn settled_plan<D: Delay>(points: i64) -> Result<(Plan<D, Table>, usize), PlanFault>
-    ensures { Settles D.kind state_of points result }
-{
-    let mut plan = Plan::open(Table::new(), point_count(points), 0);
-    let count = plan.settle(&mut [0; LIST_LENGTH])?;
-    Ok((plan, count))
 }

@@ -2,4 +2,4 @@ use Rattle.std.specs.Prelude.{length}
 use Rattle.plan_tests.proofs.undo_edges.+climb.Given as goal
 
 abbrev pub decreases-climb : goal.decreases-climb
-decreases-climb l = length l.levels
+decreases-climb g l = length l.levels.now

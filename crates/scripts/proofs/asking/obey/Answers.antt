@@ -1,16 +1,21 @@
-use Rattle.std.proofs.Common.{ℕ, sym, subst}
-use Rattle.plans.specs.Answers.{read}
+use Rattle.std.proofs.Common.{◌≡◌, ℕ, length, sym, subst, arith, rules}
+use Rattle.bounds.specs.Making.{row_of}
+use Rattle.plans.specs.Answers.{read, post}
 use Rattle.plans.specs.Plans.{state_of, post_answer, read_answer}
 use Rattle.plans.specs.Steps.{Step}
 use Rattle.scripts.specs.declared.command.Command.{Command}
-use Rattle.scripts.specs.Sessions.{Obeys}
+use Rattle.scripts.specs.Sessions.{Obeys, list_length}
 use Rattle.scripts.proofs.Remaining.{post_ready}
 use Rattle.scripts.proofs.asking.obey.Goals as goal
 
 pub returns-in-Post-clause-obeys : goal.returns-in-Post-clause-obeys
 returns-in-Post-clause-obeys g c =
+    let long : length c.args.list.now ≡ list_length = first_of (omega arith, search rules) in
+    let step =
+    subst (λ (n : ℕ). Step g.D.Delay.kind (state_of c.args.plan.now) (post n (row_of c.in-Post.bound)) (post_answer c.post.result) (state_of c.post.new.self))
+    long c.post.ensures.step in
     subst (λ (x : Command). Obeys g.D.Delay.kind (state_of c.args.plan.now) x c.posted_answer.result (state_of c.post.new.self)) (sym c.in-Post.is)
-    (post_answer c.post.result, c.post.ensures.step, c.posted_answer.ensures.says g.D.Delay.kind)
+    (post_answer c.post.result, step, c.posted_answer.ensures.says g.D.Delay.kind)
 
 pub returns-in-Post-clause-ready : goal.returns-in-Post-clause-ready
 returns-in-Post-clause-ready g c =
