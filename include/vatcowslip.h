@@ -23,7 +23,7 @@ extern "C" {
  * - neither length is above the greatest ptrdiff_t;
  * - the two buffers have no byte in common;
  * - while the call runs, nobody else, as another thread or a signal handler, writes the script, or reads or writes the output;
- * - the thread that calls has 512 KiB of stack left: the call was measured to use 272.
+ * - the thread that calls has 320 KiB of stack left: the call was measured to use 169, and 178 as built by Rattle's own compiler.
  *
  * Threads may call it at one time, each with an output of its own; they may share a script.
  */
