@@ -13,7 +13,7 @@ pub mod totals;
 pub use delay::{Delay, read_pair};
 pub use fault::KindFault;
 pub use has_delay::HasDelay;
-pub use quantity::Quantity;
+// Not `quantity::Quantity`, whose methods have the names of those of `Delay`: who brings in all names here calls them on kinds.
 pub use ranked::Ranked;
 pub use ticks::Ticks;
 pub use totals::total;

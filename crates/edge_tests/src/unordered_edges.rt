@@ -4,7 +4,8 @@ ghost use Rattle.delays.specs.Ticks.{ticks_kind};
 ghost use Rattle.delays.specs.TicksLaws.{ticks_lawful};
 
 use crate::kinds::{REACH, ticks};
-use delays::{Delay, KindFault, Quantity, Ticks, read_pair, total};
+use delays::quantity::Quantity;
+use delays::{Delay, KindFault, Ticks, read_pair, total};
 use network::{
     Edge, Link, Mismatch, check_times, comes_over, edge_of, floor, in_force, is_chain, meets, sum,
 };

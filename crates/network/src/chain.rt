@@ -8,7 +8,7 @@ ghost use Rattle.network.specs.Rounds.{RoundsRepeat};
 
 use crate::edge::Edge;
 use crate::walk::{leads, sum};
-use delays::Quantity;
+use delays::quantity::Quantity;
 
 // Whether no edge of the row leaves the point.
 fn never_leaves<D: Quantity>(row: &[Edge<D>], point: usize) -> bool

@@ -3,7 +3,8 @@ ghost use Rattle.std.specs.Prelude.{◌≡◌, Decides};
 ghost use Rattle.network.specs.Bounds.{floor_of};
 ghost use Rattle.network.specs.Edges.{bound_of, InForceRead};
 
-use delays::{HasDelay, Quantity};
+use delays::HasDelay;
+use delays::quantity::Quantity;
 
 // A bound between two points: left minus right is at most the delay.
 #[derive(Clone, Copy, PartialEq, Eq, Debug)]

@@ -5,7 +5,7 @@ ghost use Rattle.network.specs.Links.{WordOf, LinkOf, OneWord, OneLink};
 ghost use Rattle.network.specs.Reasons.{no_word_reason, no_link_reason};
 
 use crate::edge::{Edge, floor};
-use delays::Quantity;
+use delays::quantity::Quantity;
 use std::error::Error;
 use std::fmt;
 

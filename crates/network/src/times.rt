@@ -7,7 +7,7 @@ ghost use Rattle.network.specs.Walks.{WalkTheory};
 ghost use Rattle.network.specs.Consistency.{Consistency};
 
 use crate::edge::{Edge, equal};
-use delays::Quantity;
+use delays::quantity::Quantity;
 use std::error::Error;
 use std::fmt;
 

@@ -7,7 +7,8 @@ ghost use Rattle.network.specs.Walks.{Walk};
 ghost use Rattle.network.specs.Earliest.{EarliestTheory};
 
 use crate::edge::{Edge, equal};
-use delays::{Quantity, total};
+use delays::quantity::Quantity;
+use delays::total;
 
 // The sum of the delays of a row, or nothing exactly when a sum on the way leaves the reach. That of at most 256 edges, none with a delay
 // of a size above the greatest, is always had.
