@@ -71,8 +71,9 @@ impl<const N: usize> Rows<N> {
         requires { length (listed self.old) < N }
         ensures { listed self.new ≡ listed self.old ++ row_of bound ∷ [] }
     {
-        self.cells.rows[self.len] = bound.row();
-        self.len += 1;
+        let len = self.len;
+        self.cells.rows[len] = bound.row();
+        self.len = len + 1;
     }
 
     // Keeps the first `k` rows.

@@ -15,7 +15,7 @@ use std::marker::Model;
 
 const PLACES: usize = 64;
 
-// A trial's own bounds, as rows of theirs.
+// The bounds of a trial's own, as plain rows.
 #[derive(Drop)]
 struct Own {
     rows: Rows<PLACES>,
@@ -29,7 +29,7 @@ pub struct Trial<B: Book> {
     own: Own,
 }
 
-// Its own bounds have places. This is no ghost field, since with one a generic struct could not hold trials on trials.
+// That its own bounds have places is no ghost field: with one, a generic struct could not hold trials on trials.
 impl<B: Book> Model for Trial<B> {
     ghost use Rattle.std.specs.Prelude.{◌≤◌, length};
     ghost use Rattle.books.specs.Laid.{Laid};
