@@ -1,5 +1,5 @@
 -- What the books with rows of their own mean: a table, and a trial over the book below it. Assumes nothing.
-use Rattle.std.specs.Prelude.{◌≡◌, ℕ, ◌-◌, min, List, [], length}
+use Rattle.std.specs.Prelude.{◌≡◌, ℕ, ◌-◌, min, List, [], length, take}
 use Rattle.bounds.specs.declared.row.Row.{Row}
 use Rattle.books.specs.Meaning.{Meaning, bounds_of}
 
@@ -10,6 +10,10 @@ table_of rows = record { fixed = []; added = rows; free = 1024 - length rows }
 -- how many bounds a trial has place for: 64, or 65,535 less the bounds below if fewer
 abbrev pub trial_places : Meaning → ℕ
 trial_places below = min 64 (65535 - length (bounds_of below))
+
+-- as many rows of its own as a trial has place for; it never has more
+abbrev pub fitting : Meaning → List Row → List Row
+fitting below own = take (trial_places below) own
 
 -- a trial with these rows over the book below: all bounds below are fixed, and those of its own are added
 abbrev pub trial_over : Meaning → List Row → Meaning

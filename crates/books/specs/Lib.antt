@@ -3,6 +3,7 @@ pub mod Faults
 pub mod Calls
 pub mod Listed
 pub mod Layers
+pub mod Laid
 pub mod Laws
 pub mod Decoding
 pub mod Lent

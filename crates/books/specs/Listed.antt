@@ -1,7 +1,9 @@
--- The rows that an inner table lists, as a list. Assumes nothing.
-use Rattle.std.specs.Prelude.{ℕ, List}
+-- What a contract sees of an inner table: the rows that it lists, in order. Assumes nothing.
+use Rattle.std.specs.Prelude.{List}
 use Rattle.bounds.specs.declared.row.Row.{Row}
-use Rattle.books.specs.declared.rows.Rows.{Rows}
 
-abbrev pub listed : {N : ℕ} → Rows N → List Row
-listed r = r.rows.items
+pub record Listing : Type 0 where
+  pub rows : List Row
+
+abbrev pub listed : Listing → List Row
+listed r = r.rows

@@ -29,14 +29,23 @@ impl From<BookFault> for Fault {
     }
 }
 
-// What is wrong, in words.
+impl BookFault {
+    /// What is wrong, in words.
+    pub fn reason(self) -> &'static str
+        ensures { result.now ≡ reason_of self }
+    {
+        match self {
+            BookFault::Full => "the book has no free place",
+        }
+    }
+}
+
+// It prints the words of `reason`.
 impl fmt::Display for BookFault {
     ghost output = { λ e. Some (reason_of e) };
 
     fn fmt<W: fmt::Write>(&self, f: &mut fmt::Formatter<W>) -> fmt::Result {
-        match self {
-            BookFault::Full => write!(f, "the book has no free place"),
-        }
+        f.write_str(self.reason())
     }
 }
 

@@ -5,14 +5,33 @@ ghost use Rattle.std.specs.List.{All, slice_get};
 ghost use Rattle.bounds.specs.Making.{row_of};
 ghost use Rattle.bounds.specs.Range.{Sound};
 
-use arrayvec::ArrayVec;
 use bounds::{Bound, Row};
+use std::marker::Model;
 
-/// Up to N plain rows: the inner table of the books that keep bounds of their own. That the rows are those of bounds is a ghost field
-/// of those books: over lent words, a struct with a ghost field inside a book would keep the book from being moved into another.
+// The places of N rows. They are a struct of their own: over an array of rows, a function that names no row, as one that counts or cuts them, gets
+// no proof today.
+#[derive(Drop)]
+struct Cells<const N: usize> {
+    rows: [Row; N],
+}
+
+/// Up to N plain rows: the inner table of the books that keep bounds of their own. A contract sees the rows in use alone, so that a cut
+/// has only to count fewer. That they are those of bounds is a ghost field of what holds the table.
 #[derive(Drop)]
 pub struct Rows<const N: usize> {
-    rows: ArrayVec<Row, N>,
+    cells: Cells<N>,
+    len: usize,
+}
+
+impl<const N: usize> Model for Rows<N> {
+    ghost use Rattle.std.specs.Prelude.{◌≡◌, ◌≤◌, length, take};
+    ghost use Rattle.books.specs.Listed.{Listing};
+
+    ghost Value = { Listing };
+
+    ghost view = { λ r. record { rows = take r.len r.cells.rows } };
+
+    ghost invariant = { λ r. (r.len ≤ N) × (length r.cells.rows ≡ N) };
 }
 
 impl<const N: usize> Rows<N> {
@@ -22,7 +41,10 @@ impl<const N: usize> Rows<N> {
         ensures { listed result ≡ [] }
     {
         Rows {
-            rows: ArrayVec::new(),
+            cells: Cells {
+                rows: [Row::default(); N],
+            },
+            len: 0,
         }
     }
 
@@ -30,7 +52,7 @@ impl<const N: usize> Rows<N> {
     pub(crate) fn len(&self) -> usize
         ensures { result ≡ length (listed self.now) }
     {
-        self.rows.len()
+        self.len
     }
 
     // The bound of the row with the number `i`, or nothing exactly when there is none.
@@ -39,7 +61,7 @@ impl<const N: usize> Rows<N> {
         requires { All Sound (listed self.now) }
         ensures { option_map row_of result ≡ slice_get (listed self.now) i }
     {
-        match self.rows.get(i) {
+        match self.cells.rows[..self.len].get(i) {
             Some(row) => Some(Bound { row: *row }),
             None => None,
         }
@@ -49,13 +71,15 @@ impl<const N: usize> Rows<N> {
         requires { length (listed self.old) < N }
         ensures { listed self.new ≡ listed self.old ++ row_of bound ∷ [] }
     {
-        self.rows.push(bound.row());
+        let len = self.len;
+        self.cells.rows[len] = bound.row();
+        self.len = len + 1;
     }
 
     // Keeps the first `k` rows.
     pub(crate) fn cut(&mut self, k: usize)
         ensures { listed self.new ≡ take k (listed self.old) }
     {
-        self.rows.truncate(k);
+        self.len = self.len.min(k);
     }
 }

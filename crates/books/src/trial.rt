@@ -1,26 +1,46 @@
 // The trial: a book laid over another.
-ghost use Rattle.std.specs.Prelude.{◌≡◌, ◌≤◌, [], length};
+ghost use Rattle.std.specs.Prelude.{◌≡◌, []};
 ghost use Rattle.std.specs.List.{All};
 ghost use Rattle.bounds.specs.Range.{Sound};
 ghost use Rattle.books.specs.Listed.{listed};
-ghost use Rattle.books.specs.Layers.{BelowSame, trial_over, trial_places};
-ghost use Rattle.books.specs.Laws.{trial_proper};
+ghost use Rattle.books.specs.Layers.{BelowSame, fitting, trial_over};
+ghost use Rattle.books.specs.Laws.{fitting_proper};
 ghost use Rattle.books.specs.Calls.{Keeps};
 
 use crate::book::{Book, MOST};
 use crate::fault::BookFault;
 use crate::rows::Rows;
 use bounds::Bound;
+use std::marker::Model;
 
 const PLACES: usize = 64;
+
+// The bounds of a trial's own, as plain rows.
+#[derive(Drop)]
+struct Own {
+    rows: Rows<PLACES>,
+    ghost sound: { All Sound (listed rows) },
+}
 
 /// A trial: up to 64 bounds laid over any book, which stays as it is. The trial is itself a book, so trials may lie on trials.
 #[derive(Drop)]
 pub struct Trial<B: Book> {
     below: B,
-    own: Rows<PLACES>,
-    ghost sound: { All Sound (listed own) },
-    ghost fits: { length (listed own) ≤ trial_places (B.meaning below) },
+    own: Own,
+}
+
+// That its own bounds have places is no ghost field: with one, a generic struct could not hold trials on trials.
+impl<B: Book> Model for Trial<B> {
+    ghost use Rattle.std.specs.Prelude.{◌≤◌, length};
+    ghost use Rattle.books.specs.Laid.{Laid};
+    ghost use Rattle.books.specs.Listed.{listed};
+    ghost use Rattle.books.specs.Layers.{trial_places};
+
+    ghost Value = { Laid B };
+
+    ghost view = { λ t. record { below = t.below; own = t.own } };
+
+    ghost invariant = { λ t. length (listed t.own.rows) ≤ trial_places (B.meaning t.below) };
 }
 
 impl<B: Book> Trial<B> {
@@ -32,7 +52,7 @@ impl<B: Book> Trial<B> {
     {
         Trial {
             below,
-            own: Rows::new(),
+            own: Own { rows: Rows::new() },
         }
     }
 
@@ -47,7 +67,7 @@ impl<B: Book> Trial<B> {
 
 // Its `add` and `cut` are alike with those of a table, where it is said why.
 impl<B: Book> Book for Trial<B> {
-    ghost meaning = { λ t. trial_over (B.meaning t.below) (listed t.own) };
+    ghost meaning = { λ t. trial_over (B.meaning t.below) (fitting (B.meaning t.below) (listed t.own.rows)) };
 
     // The book below is the same.
     ghost adds = { BelowSame (λ t. t.below) };
@@ -61,12 +81,12 @@ impl<B: Book> Book for Trial<B> {
 
     #[inline(always)]
     fn added_count(&self) -> usize {
-        self.own.len()
+        self.own.rows.len()
     }
 
     // Of 64 places, or of 65,535 less the bounds below if those are fewer.
     fn free_count(&self) -> usize {
-        PLACES.min(MOST - self.below.count()) - self.own.len()
+        PLACES.min(MOST - self.below.count()) - self.own.rows.len()
     }
 
     #[inline(always)]
@@ -75,7 +95,7 @@ impl<B: Book> Book for Trial<B> {
         if i < below {
             self.below.read(i)
         } else {
-            self.own.read(i - below)
+            self.own.rows.read(i - below)
         }
     }
 
@@ -83,17 +103,17 @@ impl<B: Book> Book for Trial<B> {
         if self.free_count() == 0 {
             return Err(BookFault::Full);
         }
-        self.own.push(bound);
+        self.own.rows.push(bound);
         Ok(())
     }
 
     fn cut(&mut self, k: usize) -> bool {
-        if k > self.own.len() {
+        if k > self.own.rows.len() {
             return false;
         }
-        self.own.cut(k);
+        self.own.rows.cut(k);
         true
     }
 
-    ghost proper = { λ t. trial_proper (B.meaning t.below) (listed t.own) t.fits t.sound (B.proper t.below) };
+    ghost proper = { λ t. fitting_proper (B.meaning t.below) (listed t.own.rows) t.own.sound (B.proper t.below) };
 }

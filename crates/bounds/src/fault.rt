@@ -33,17 +33,26 @@ impl From<BoundFault> for Fault {
     }
 }
 
-// What is wrong, in words.
-impl fmt::Display for BoundFault {
-    ghost output = { λ e. Some (reason_of e) };
-
-    fn fmt<W: fmt::Write>(&self, f: &mut fmt::Formatter<W>) -> fmt::Result {
-        f.write_str(match self {
+impl BoundFault {
+    /// What is wrong, in words.
+    pub fn reason(self) -> &'static str
+        ensures { result.now ≡ reason_of self }
+    {
+        match self {
             BoundFault::LeftPoint => "the left point is not from 0 to 4095",
             BoundFault::RightPoint => "the right point is not from 0 to 4095",
             BoundFault::PartT => "t is not from -500000000 to 500000000",
             BoundFault::PartS => "s is not from -500000000 to 500000000",
-        })
+        }
+    }
+}
+
+// It prints the words of `reason`.
+impl fmt::Display for BoundFault {
+    ghost output = { λ e. Some (reason_of e) };
+
+    fn fmt<W: fmt::Write>(&self, f: &mut fmt::Formatter<W>) -> fmt::Result {
+        f.write_str(self.reason())
     }
 }
 

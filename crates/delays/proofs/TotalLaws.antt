@@ -19,6 +19,16 @@ module _ {k : Kind} (laws : Lawful k) where
   total_push [] y = laws.comm y k.zero
   total_push (x ∷ xs) y = ap (k.sum x) (total_push xs y) ∙ sym (laws.assoc x (total k xs) y)
 
+  module _ {Y : Type 0} (each : Y → Exact k) (row : List Y) where
+    -- the sum so far and the delay of the next one are the sum of one more, within the reach or past it
+    pub sum_next : {i : ℕ} {x : Y} {d y : Exact k} → d ≡ total_upto k each row i → i < length row → x ≡ get_or row i x → y ≡ each x
+        → k.sum d y ≡ total_upto k each row (i + 1)
+    sum_next {i} {x} {d} so_far more read has =
+        let pushed : take (i + 1) row ≡ take i row ++ (x ∷ []) = take_more row i x more ∙ ap (λ y. take i row ++ (y ∷ [])) (sym read) in
+        let all : total_upto k each row (i + 1) ≡ k.sum (total_upto k each row i) (each x) =
+        ap (λ ys. total k (map each ys)) pushed ∙ (ap (total k) (map_push each (take i row) x) ∙ total_push (map each (take i row)) (each x)) in
+        ap (k.sum d) has ∙ (ap (λ y. k.sum y (each x)) so_far ∙ sym all)
+
   module _ {Y : Type 0} {each : Y → Exact k} {row : List Y} where
     pub sum_begins : {d : Exact k} → d ≡ k.zero → SummedUpto k each row 0 d
     sum_begins e = record {
@@ -26,19 +36,10 @@ module _ {k : Kind} (laws : Lawful k) where
       within = λ n h. let none : 0 ≡ n = omega arith in subst (λ m. Within k (total_upto k each row m)) none (omega (arith, laws.size_zero));
     }
 
-    -- the sum so far and the delay of the next one are the sum of one more
-    pub sum_next : {i : ℕ} {x : Y} {d y : Exact k} → SummedUpto k each row i d → i < length row → x ≡ get_or row i x → y ≡ each x
-        → k.sum d y ≡ total_upto k each row (i + 1)
-    sum_next {i} {x} {d} so_far more read has =
-        let pushed : take (i + 1) row ≡ take i row ++ (x ∷ []) = take_more row i x more ∙ ap (λ y. take i row ++ (y ∷ [])) (sym read) in
-        let all : total_upto k each row (i + 1) ≡ k.sum (total_upto k each row i) (each x) =
-        ap (λ ys. total k (map each ys)) pushed ∙ (ap (total k) (map_push each (take i row) x) ∙ total_push (map each (take i row)) (each x)) in
-        ap (k.sum d) has ∙ (ap (λ y. k.sum y (each x)) so_far.sum ∙ sym all)
-
     pub sum_goes_on : {i : ℕ} {x : Y} {d y next : Exact k} → SummedUpto k each row i d → i < length row → x ≡ get_or row i x
         → next ≡ k.sum d y → y ≡ each x → Within k next → SummedUpto k each row (i + 1) next
     sum_goes_on {i} {next = next} so_far more read added has within =
-        let is_next : next ≡ total_upto k each row (i + 1) = added ∙ sum_next so_far more read has in
+        let is_next : next ≡ total_upto k each row (i + 1) = added ∙ sum_next each row so_far.sum more read has in
         record {
           sum = is_next;
           within = λ n h. elim (cases_lt i n) [

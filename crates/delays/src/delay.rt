@@ -4,6 +4,7 @@ ghost use Rattle.delays.specs.Faults.{PairRead};
 ghost use Rattle.delays.specs.Kind.{Kind, Exact, Within, Lawful, Parts, Unread};
 
 use crate::fault::KindFault;
+use crate::quantity::Quantity;
 
 // A kind of delay. A value means one exact delay of the kind, of a size within its reach. What is computed with values is
 // exact, and answers nothing where it would leave the reach.
@@ -74,7 +75,7 @@ pub trait Delay: Copy + Ord {
 }
 
 // The delay with the parts t and s; or fault 6, which names no place, where no delay within the reach has them.
-pub fn read_pair<D: Delay>(t: i64, s: i64) -> Result<D, KindFault>
+pub fn read_pair<D: Quantity>(t: i64, s: i64) -> Result<D, KindFault>
     ensures { PairRead D.kind D.means t s result }
 {
     D::read(t, s).ok_or(KindFault::Unread)

@@ -27,14 +27,23 @@ impl From<KindFault> for Fault {
     }
 }
 
-// What is wrong, in words.
+impl KindFault {
+    /// What is wrong, in words.
+    pub fn reason(self) -> &'static str
+        ensures { result.now ≡ reason_of self }
+    {
+        match self {
+            KindFault::Unread => "no delay of the kind has these parts",
+        }
+    }
+}
+
+// It prints the words of `reason`.
 impl fmt::Display for KindFault {
     ghost output = { λ e. Some (reason_of e) };
 
     fn fmt<W: fmt::Write>(&self, f: &mut fmt::Formatter<W>) -> fmt::Result {
-        match self {
-            KindFault::Unread => write!(f, "no delay of the kind has these parts"),
-        }
+        f.write_str(self.reason())
     }
 }
 

@@ -2,6 +2,7 @@
 ghost use Rattle.std.specs.Prelude.{◌≡◌, ◌<◌, ◌≤◌, ◌+ℤ◌, neg_ℤ, MatchOption, unsigned_abs};
 ghost use Rattle.delays.specs.Sizes.{number_reach};
 
+use std::fmt;
 use std::ops::Neg;
 
 // The greatest size of a small part.
@@ -14,7 +15,7 @@ pub(crate) const REACH: u64 = 1_099_511_627_776;
 const LIMIT: i64 = REACH as i64;
 
 // A whole number of a size within the reach.
-#[derive(Clone, Copy, PartialEq, Eq, PartialOrd, Ord, Debug)]
+#[derive(Clone, Copy, PartialEq, Eq, PartialOrd, Ord)]
 pub(crate) struct Number {
     value: i64,
     ghost within: { unsigned_abs value ≤ number_reach },
@@ -66,6 +67,13 @@ impl From<i32> for Number {
         Number {
             value: value as i64,
         }
+    }
+}
+
+// As the plain number, so that a kind shows the numbers that it has.
+impl fmt::Debug for Number {
+    fn fmt<W: fmt::Write>(&self, f: &mut fmt::Formatter<W>) -> fmt::Result {
+        self.value.fmt(f)
     }
 }
 

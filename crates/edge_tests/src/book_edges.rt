@@ -96,6 +96,42 @@ fn trials_on_trials(rt: HostRuntime) -> Result<(), Fail> {
     Ok(())
 }
 
+// A struct over any book that holds a trial on a trial.
+struct Twice<B: Book> {
+    top: Trial<Trial<B>>,
+}
+
+impl<B: Book> Twice<B> {
+    fn over(book: B) -> Twice<B> {
+        Twice {
+            top: Trial::lay(Trial::lay(book)),
+        }
+    }
+
+    fn back(self) -> B {
+        let Twice { top } = self;
+        top.lift().lift()
+    }
+}
+
+#[test]
+fn trials_on_trials_in_a_struct_over_any_book(rt: HostRuntime) -> Result<(), Fail> {
+    let mut table = Table::new();
+    fill(&mut table, 0, 2)?;
+    let mut twice = Twice::over(table);
+    let calls = [
+        (Call::Count, Answer::Numbers(2, 0, 64)),
+        (Call::Fill(2, 5), Answer::Added),
+        (Call::Count, Answer::Numbers(2, 3, 61)),
+        (Call::Read(1), Answer::Holds(1)),
+        (Call::Read(4), Answer::Holds(4)),
+        (Call::Read(5), Answer::Nothing),
+    ];
+    play(&rt, &mut twice.top, &calls);
+    assert_eq!(rt; numbers(&twice.back()), (0, 2, 1_022));
+    Ok(())
+}
+
 #[test]
 fn no_words(rt: HostRuntime) -> Result<(), Fail> {
     let mut none: [u32; 0] = [];
@@ -131,6 +167,17 @@ fn words_of_one_bound(rt: HostRuntime) -> Result<(), Fail> {
     check_full(&rt, &mut book, 1, 0)?;
     check_cuts(&rt, &mut book, 1, 0, 0);
     assert_eq!(rt; words, words_of(bound(5)?));
+    Ok(())
+}
+
+#[test]
+fn a_row_put_into_words(rt: HostRuntime) -> Result<(), Fail> {
+    let [a, b, c] = words_of(bound(1)?);
+    let [d, e, f] = words_of(bound(2)?);
+    let mut words = [a, b, c, 0, 7, 7, 7, 7, 7, 7, 7, 7];
+    let mut book = WordBook::open(&mut words);
+    add_all(&mut book, &[bound(2)?])?;
+    assert_eq!(rt; words, [a, b, c, d, e, f, 0, 7, 7, 7, 7, 7]);
     Ok(())
 }
 

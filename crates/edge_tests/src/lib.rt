@@ -18,4 +18,6 @@ mod network_edges;
 #[cfg(test)]
 mod tool_runs;
 #[cfg(test)]
+mod unordered_edges;
+#[cfg(test)]
 mod word_edges;

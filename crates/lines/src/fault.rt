@@ -26,12 +26,21 @@ impl From<LineFault> for Fault {
     }
 }
 
-// What is wrong, in words.
+impl LineFault {
+    /// What is wrong, in words.
+    pub fn reason(self) -> &'static str
+        ensures { result.now ≡ reason_of self }
+    {
+        "a field is missing, unreadable or extra"
+    }
+}
+
+// It prints the words of `reason`.
 impl fmt::Display for LineFault {
     ghost output = { λ e. Some (reason_of e) };
 
     fn fmt<W: fmt::Write>(&self, f: &mut fmt::Formatter<W>) -> fmt::Result {
-        f.write_str("a field is missing, unreadable or extra")
+        f.write_str(self.reason())
     }
 }
 

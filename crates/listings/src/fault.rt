@@ -54,16 +54,25 @@ impl From<ListingFault> for Fault {
     }
 }
 
-// What is wrong, in the words of the layer below.
+impl ListingFault {
+    /// What is wrong, in the words of the layer below.
+    pub fn reason(self) -> &'static str
+        ensures { result.now ≡ reason_of self }
+    {
+        match self {
+            ListingFault::Line(e) => e.reason(),
+            ListingFault::Bound(e) => e.reason(),
+            ListingFault::Word(e) => e.reason(),
+        }
+    }
+}
+
+// It prints the words of `reason`.
 impl fmt::Display for ListingFault {
     ghost output = { λ e. Some (reason_of e) };
 
     fn fmt<W: fmt::Write>(&self, f: &mut fmt::Formatter<W>) -> fmt::Result {
-        match self {
-            ListingFault::Line(e) => write!(f, "{e}"),
-            ListingFault::Bound(e) => write!(f, "{e}"),
-            ListingFault::Word(e) => write!(f, "{e}"),
-        }
+        f.write_str(self.reason())
     }
 }
 

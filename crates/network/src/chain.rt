@@ -8,10 +8,10 @@ ghost use Rattle.network.specs.Rounds.{RoundsRepeat};
 
 use crate::edge::Edge;
 use crate::walk::{leads, sum};
-use delays::Delay;
+use delays::quantity::Quantity;
 
 // Whether no edge of the row leaves the point.
-fn never_leaves<D: Delay>(row: &[Edge<D>], point: usize) -> bool
+fn never_leaves<D: Quantity>(row: &[Edge<D>], point: usize) -> bool
     ensures { Decides result (All (λ e. ¬ (point ≡ e.left)) row.now) }
 {
     row.iter().all(|edge| edge.left != point)
@@ -19,7 +19,7 @@ fn never_leaves<D: Delay>(row: &[Edge<D>], point: usize) -> bool
 
 // Whether no left point comes twice. A loop: a chain would take the rest of the row by an index, and a recursion would take stack.
 #[tactic(auto, using(crate::proofs::Checking::apart_steps))]
-fn lefts_apart<D: Delay>(row: &[Edge<D>]) -> bool
+fn lefts_apart<D: Quantity>(row: &[Edge<D>]) -> bool
     ensures { Decides result (Apart (map (λ e. e.left) row.now)) }
 {
     let mut rest = row;
@@ -34,7 +34,7 @@ fn lefts_apart<D: Delay>(row: &[Edge<D>]) -> bool
 
 // Whether the row is closed, with no left point twice.
 #[tactic(auto, using(crate::proofs::Checking::cycle_steps))]
-fn is_cycle<D: Delay>(row: &[Edge<D>]) -> bool
+fn is_cycle<D: Quantity>(row: &[Edge<D>]) -> bool
     ensures { Decides result (Cycle D.kind D.means row.now) }
 {
     let [first, ..] = row else {
@@ -46,7 +46,7 @@ fn is_cycle<D: Delay>(row: &[Edge<D>]) -> bool
 // Whether the row is a chain: closed, with no left point twice and a sum below zero. Nothing is answered exactly when the row is closed
 // with no left point twice and a sum on the way leaves the reach; for at most 256 edges, none with a delay of a size above the greatest,
 // there is always an answer. Edges that hold a chain are met by no times.
-pub fn is_chain<D: Delay>(row: &[Edge<D>]) -> Option<bool>
+pub fn is_chain<D: Quantity>(row: &[Edge<D>]) -> Option<bool>
     ensures answer { ChainChecked D.kind D.means row.now result }
     ensures small { SmallAnswered D.kind (λ e. D.means e.delay) row.now result }
     ensures chains { ChainTheory D.kind }
@@ -56,5 +56,5 @@ pub fn is_chain<D: Delay>(row: &[Edge<D>]) -> Option<bool>
         return Some(false);
     }
     let sum = sum(row)?;
-    Some(sum < D::zero())
+    Some(!D::zero().at_most(sum))
 }

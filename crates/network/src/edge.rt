@@ -1,9 +1,10 @@
 // Bounds as values.
-ghost use Rattle.std.specs.Prelude.{◌≡◌};
+ghost use Rattle.std.specs.Prelude.{◌≡◌, Decides};
 ghost use Rattle.network.specs.Bounds.{floor_of};
 ghost use Rattle.network.specs.Edges.{bound_of, InForceRead};
 
-use delays::{Delay, HasDelay};
+use delays::HasDelay;
+use delays::quantity::Quantity;
 
 // A bound between two points: left minus right is at most the delay.
 #[derive(Clone, Copy, PartialEq, Eq, Debug)]
@@ -13,7 +14,7 @@ pub struct Edge<D> {
     pub delay: D,
 }
 
-impl<D: Delay> HasDelay<D> for Edge<D> {
+impl<D: Quantity> HasDelay<D> for Edge<D> {
     ghost delay_of = { λ e. e.delay };
 
     fn delay(&self) -> D {
@@ -22,7 +23,7 @@ impl<D: Delay> HasDelay<D> for Edge<D> {
 }
 
 // The floor of a point: point 0 comes no later than it.
-pub fn floor<D: Delay>(point: usize) -> Edge<D>
+pub fn floor<D: Quantity>(point: usize) -> Edge<D>
     ensures { bound_of D.kind D.means result ≡ floor_of D.kind point }
 {
     Edge {
@@ -35,7 +36,7 @@ pub fn floor<D: Delay>(point: usize) -> Edge<D>
 // The edge in force with the number, where the book has these edges and there are so many points: an edge of the book, or after those
 // the floor of a point. Nothing exactly when none has the number. A match: with `or_else`, what it returns stayed unproved.
 #[tactic(auto, using(crate::proofs::InForce::force_steps))]
-pub fn in_force<D: Delay>(book: &[Edge<D>], points: usize, number: usize) -> Option<Edge<D>>
+pub fn in_force<D: Quantity>(book: &[Edge<D>], points: usize, number: usize) -> Option<Edge<D>>
     ensures { InForceRead D.kind D.means book.now points number result }
 {
     match book.get(number) {
@@ -45,4 +46,11 @@ pub fn in_force<D: Delay>(book: &[Edge<D>], points: usize, number: usize) -> Opt
             (point < points).then(|| floor(point))
         }
     }
+}
+
+// Whether two values mean one delay: each is at most the other.
+pub(crate) fn equal<D: Quantity>(a: D, b: D) -> bool
+    ensures { Decides result (D.means a ≡ D.means b) }
+{
+    a.at_most(b) && b.at_most(a)
 }

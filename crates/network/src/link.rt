@@ -5,7 +5,7 @@ ghost use Rattle.network.specs.Links.{WordOf, LinkOf, OneWord, OneLink};
 ghost use Rattle.network.specs.Reasons.{no_word_reason, no_link_reason};
 
 use crate::edge::{Edge, floor};
-use delays::Delay;
+use delays::quantity::Quantity;
 use std::error::Error;
 use std::fmt;
 
@@ -109,7 +109,7 @@ impl TryFrom<u32> for Link {
 
 // The edge that the link names, or nothing exactly when the book has no bound with its number.
 #[tactic(auto, using(crate::proofs::Checking::copied_named))]
-pub fn edge_of<D: Delay>(link: Link, book: &[Edge<D>], posted: Edge<D>) -> Option<Edge<D>>
+pub fn edge_of<D: Quantity>(link: Link, book: &[Edge<D>], posted: Edge<D>) -> Option<Edge<D>>
     ensures { LinkRead D.kind D.means book.now posted link result }
 {
     match link {

@@ -6,8 +6,8 @@ ghost use Rattle.network.specs.Checks.{EdgeChecked, TimesChecked};
 ghost use Rattle.network.specs.Walks.{WalkTheory};
 ghost use Rattle.network.specs.Consistency.{Consistency};
 
-use crate::edge::Edge;
-use delays::Delay;
+use crate::edge::{Edge, equal};
+use delays::quantity::Quantity;
 use std::error::Error;
 use std::fmt;
 
@@ -38,7 +38,7 @@ impl fmt::Display for Mismatch {
 impl Error for Mismatch {}
 
 // The time of a point; points past the list are at zero. `unwrap_or_else(D::zero)` gets no proof: its result is a type parameter.
-fn time_at<D: Delay>(times: &[D], point: usize) -> D
+fn time_at<D: Quantity>(times: &[D], point: usize) -> D
     ensures { D.means result ≡ time_of_point D.kind D.means times.now point }
 {
     times.get(point).copied().unwrap_or(D::zero())
@@ -46,20 +46,20 @@ fn time_at<D: Delay>(times: &[D], point: usize) -> D
 
 // Whether the times meet the edge, or nothing exactly when the limit that it sets, the right point's time plus the delay, is past the
 // reach. Points past the list are at zero.
-pub fn meets<D: Delay>(edge: Edge<D>, times: &[D]) -> Option<bool>
+pub fn meets<D: Quantity>(edge: Edge<D>, times: &[D]) -> Option<bool>
     ensures { EdgeChecked D.kind D.means times.now edge result }
 {
     let left = time_at(times, edge.left);
     let right = time_at(times, edge.right);
     let limit = right.add(edge.delay)?;
-    Some(left <= limit)
+    Some(left.at_most(limit))
 }
 
 // The check of times, edge by edge. Apart from `check_times`, since there each return would owe the theorems too.
-fn checked<D: Delay>(edges: &[Edge<D>], times: &[D]) -> Result<(), Mismatch>
+fn checked<D: Quantity>(edges: &[Edge<D>], times: &[D]) -> Result<(), Mismatch>
     ensures { TimesChecked D.kind D.means edges.now times.now result }
 {
-    if time_at(times, 0) != D::zero() {
+    if !equal(time_at(times, 0), D::zero()) {
         return Err(Mismatch::Start);
     }
     for (number, edge) in edges.iter().enumerate() {
@@ -75,7 +75,7 @@ fn checked<D: Delay>(edges: &[Edge<D>], times: &[D]) -> Result<(), Mismatch>
 // Whether the times are an assignment that meets every edge, each with its limit within the reach; or the first thing that is wrong:
 // point 0 is not at zero, or the number of the first edge that is not met or has its limit past the reach. Points past the list are at
 // zero. Edges that times meet hold no chain, and edges that hold none are met by some times.
-pub fn check_times<D: Delay>(edges: &[Edge<D>], times: &[D]) -> Result<(), Mismatch>
+pub fn check_times<D: Quantity>(edges: &[Edge<D>], times: &[D]) -> Result<(), Mismatch>
     ensures answer { TimesChecked D.kind D.means edges.now times.now result }
     ensures walks { WalkTheory D.kind }
     ensures consistency { Consistency D.kind }

@@ -31,15 +31,24 @@ impl From<WordFault> for Fault {
     }
 }
 
-// What is wrong, in words.
+impl WordFault {
+    /// What is wrong, in words.
+    pub fn reason(self) -> &'static str
+        ensures { result.now ≡ reason_of self }
+    {
+        match self {
+            WordFault::Length { words: _ } => "the number of words is no multiple of three",
+            WordFault::Word { place: _ } => "the word breaks its row",
+        }
+    }
+}
+
+// It prints the words of `reason`.
 impl fmt::Display for WordFault {
     ghost output = { λ e. Some (reason_of e) };
 
     fn fmt<W: fmt::Write>(&self, f: &mut fmt::Formatter<W>) -> fmt::Result {
-        f.write_str(match self {
-            WordFault::Length { words: _ } => "the number of words is no multiple of three",
-            WordFault::Word { place: _ } => "the word breaks its row",
-        })
+        f.write_str(self.reason())
     }
 }
 

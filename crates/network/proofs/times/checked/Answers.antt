@@ -10,7 +10,7 @@ use Rattle.network.proofs.times.checked.Goals as goal
 
 pub loop-number-preserved : goal.loop-number-preserved
 loop-number-preserved g c =
-    let P = MetWithin g.D.Delay.kind g.D.Delay.means c.args.times.now in
+    let P = MetWithin g.D.Quantity.kind g.D.Quantity.means c.args.times.now in
     let edge = c.index-edges-number in
     let met = c.in-Some-true.ensures in
     All-more P c.args.edges.now c.loop-number.number edge.result c.loop-number-test.true c.loop-number.invariant
@@ -18,8 +18,8 @@ loop-number-preserved g c =
 
 pub returns : goal.returns
 returns g c =
-    let k = g.D.Delay.kind in
-    let means = g.D.Delay.means in
+    let k = g.D.Quantity.kind in
+    let means = g.D.Quantity.means in
     let edges = c.args.edges.now in
     let times = c.args.times.now in
     let P = MetWithin k means times in
