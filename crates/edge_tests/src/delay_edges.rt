@@ -41,6 +41,14 @@ fn pairs_of_ranked(rt: HostRuntime) -> Result<(), Fail> {
     Ok(())
 }
 
+#[test]
+fn delays_as_they_are_shown(rt: HostRuntime) -> Result<(), Fail> {
+    let (t, r) = (ticks(5)?, ranked(5, -3)?);
+    let told = format!(in rt.alloc(); "{t:?} {r:?}")?;
+    assert_eq!(rt; told.as_str(), "Ticks { t: 5 } Ranked { t: 5, s: -3 }");
+    Ok(())
+}
+
 type Parts = (i64, i64);
 
 // The parts of the sum of two delays with these parts.

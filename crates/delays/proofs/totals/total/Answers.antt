@@ -14,7 +14,8 @@ past : (g : _) (c : goal.After-from_residual g) → let d = g.D.Quantity in
 past g c =
     let d = g.D.Quantity in
     let has = ap d.means c.delay.ensures in
-    let next = sum_next g.met.D.Quantity.lawful (λ x. d.means (g.T.HasDelay.delay_of x)) c.args.xs.now c.loop-x.invariant.sum c.loop-x-test.true c.x-item.is has in
+    let sum = c.loop-x.invariant.sum in
+    let next = sum_next g.met.D.Quantity.lawful (λ x. d.means (g.T.HasDelay.delay_of x)) c.args.xs.now sum c.loop-x-test.true c.x-item.is has in
     subst (λ z. d.kind.reach < d.kind.size z) next c.in_err-sum.ensures
 
 pub returns-in_err-sum-clause-sums : goal.returns-in_err-sum-clause-sums
