@@ -1,9 +1,9 @@
 // The trial: a book laid over another.
-ghost use Rattle.std.specs.Prelude.{◌≡◌, []};
+ghost use Rattle.std.specs.Prelude.{◌≡◌, ◌≤◌, [], length};
 ghost use Rattle.std.specs.List.{All};
 ghost use Rattle.bounds.specs.Range.{Sound};
 ghost use Rattle.books.specs.Listed.{listed};
-ghost use Rattle.books.specs.Layers.{BelowSame, fitting, trial_over};
+ghost use Rattle.books.specs.Layers.{BelowSame, fitting, trial_over, trial_places};
 ghost use Rattle.books.specs.Laws.{fitting_proper};
 ghost use Rattle.books.specs.Calls.{Keeps};
 
@@ -54,6 +54,17 @@ impl<B: Book> Trial<B> {
             below,
             own: Own { rows: Rows::new() },
         }
+    }
+
+    /// How many bounds the trial has of its own: the added ones, in order. Whatever calls it went through, it has no more of them than places; so two trials over
+    /// one book that mean the same are one.
+    pub fn own_count(&self) -> usize
+        ensures count { result ≡ length (listed self.now.own.rows) }
+        ensures fits { length (listed self.now.own.rows) ≤ trial_places (B.meaning self.now.below) }
+        ensures means { ⟦<Trial<B> as Book>⟧.meaning self.now ≡ trial_over (B.meaning self.now.below) (listed self.now.own.rows) }
+    {
+        let rows = &self.own.rows;
+        rows.len()
     }
 
     /// The book below, unchanged; the trial's own bounds are let go.

@@ -49,6 +49,7 @@ fn a_trial_to_its_last_place(rt: HostRuntime) -> Result<(), Fail> {
     ];
     play(&rt, &mut trial, &to_the_last);
     check_full(&rt, &mut trial, 2, 64)?;
+    assert_eq!(rt; trial.own_count(), 64);
     let reads = [
         (Call::Read(0), Answer::Holds(0)),
         (Call::Read(1), Answer::Holds(1)),
@@ -93,6 +94,18 @@ fn trials_on_trials(rt: HostRuntime) -> Result<(), Fail> {
     ];
     play(&rt, &mut first, &calls);
     assert_eq!(rt; numbers(&first.lift()), (0, 1, 1_023));
+    Ok(())
+}
+
+// The bounds below are not its own, and those that were cut no longer are.
+#[test]
+fn own_bounds_of_trials(rt: HostRuntime) -> Result<(), Fail> {
+    let mut second = Trial::lay(first_trial()?);
+    assert_eq!(rt; second.own_count(), 0);
+    add_all(&mut second, &[bound(3)?, bound(4)?, bound(5)?])?;
+    assert_eq!(rt; second.own_count(), 3);
+    assert_eq!(rt; (second.cut(1), second.own_count()), (true, 1));
+    assert_eq!(rt; second.lift().own_count(), 2);
     Ok(())
 }
 
