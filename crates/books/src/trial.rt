@@ -56,8 +56,8 @@ impl<B: Book> Trial<B> {
         }
     }
 
-    /// How many bounds the trial has of its own: the added ones, in order. Whatever calls it went through, it has no more of them than places; so two trials over
-    /// one book that mean the same are one.
+    /// How many bounds the trial has of its own. They are those that it adds to the book below, and whatever calls it went through, it has no more of them than
+    /// places.
     pub fn own_count(&self) -> usize
         ensures count { result ≡ length (listed self.now.own.rows) }
         ensures fits { length (listed self.now.own.rows) ≤ trial_places (B.meaning self.now.below) }
