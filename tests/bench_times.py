@@ -86,7 +86,7 @@ def print_scripts(seed, peer):
     for name, text in zip([("T", 1), *named], texts):
         check_same(name, text, peer)
     (our_base, *ours), (peer_base, *peers) = costs([(VATCOWSLIP, text) for text in texts]), costs([(peer, text) for text in texts])
-    print(f"{UNIT} a line, seed {seed}; of `T 1` alone {number(our_base)}, and {number(peer_base)} of the peer, which is mostly to load it:\n")
+    print(f"{UNIT} a line, seed {seed}. The script that is just the line `T 1`, a plan of one point, takes {number(our_base)}, and {number(peer_base)} of the peer, which is mostly to load it:\n")
     print_head("Kind", "Shape", "Points", "`vatcowslip`", "Peer", "Ratio")
     for (kind, shape, points), our, their in zip(named, ours, peers):
         our, their = (our - our_base) / LINES, (their - peer_base) / LINES
